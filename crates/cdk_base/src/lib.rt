@@ -1,0 +1,26 @@
+//! Texts, lists, fault codes, settings and the words on JSON that every crate above speaks of.
+#![tactic(auto)]
+
+mod code;
+mod fault;
+mod json;
+mod marker;
+mod text;
+
+pub use code::Code;
+pub use fault::Fault;
+pub use json::{json_text, pretty_bytes, pretty_text_reads_back, text_of};
+pub use marker::has_marker;
+pub use serde_json::Value;
+pub use sqlite_items::Items as List;
+pub use text::Text;
+
+/// The members of a JSON object, by key bytes.
+pub type Map = serde_json::Map<String, Value>;
+
+/// One `KEY=VALUE` of the command line, cut at its first `=`.
+#[derive(Drop)]
+pub struct Setting {
+    pub key: Text,
+    pub value: Text,
+}
