@@ -1,13 +1,13 @@
 -- Names have letters and digits alone, and fit in 255.
-use Rattle.std.proofs.Common.{◌≡◌, ℕ, zero, suc, ◌+◌, ◌*◌, ◌/◌, ◌%◌, ◌<◌, ◌≤◌, List, [], ◌∷◌, ◌++◌, length, length-append, take, get_or, Bool, true, false, cond, ◌&&◌, Some, Option, refl, sym, ap, ◌∙◌, arith, IfSome, IsAscii, filter, flat_map, nat_lt, nat_le, nat_eq}
+use Rattle.std.proofs.Common.{◌≡◌, ℕ, zero, suc, ◌*◌, ◌/◌, ◌%◌, ◌<◌, List, [], ◌∷◌, ◌++◌, length, length-append, take, get_or, Bool, true, false, cond, ◌&&◌, refl, ◌∙◌, arith, IfSome, filter, flat_map, nat_lt, nat_le}
 use Rattle.std.proofs.lemmas.Bool.Decides.{nat_tests}
 use Rattle.std.proofs.lemmas.List.{length-take}
 use Rattle.std.proofs.lemmas.List.Folds.{list_all-append}
-use Rattle.std.specs.Char.{is_ascii_alphabetic, is_ascii_alphanumeric}
+use Rattle.std.specs.Char.{is_ascii_alphanumeric}
 use Rattle.std.specs.List.{list_all, join_with_byte}
 use Rattle.std.specs.Int.{w32, to_le_bytes, byte_at}
 use Rattle.md5.specs.Md5.{md5, digest_bytes}
-use Rattle.cdk_names.specs.Names.{visible, is_shown, unrepeated, alphanumerics, upper_digit, upper_hex, hash, human, hashed_name, name_of_visible, unique_id}
+use Rattle.cdk_names.specs.Names.{visible, is_shown, unrepeated, alphanumerics, upper_digit, upper_hex, human, hashed_name, name_of_visible}
 use Rattle.cdk_names.specs.Laws.{IsAlphanumericName, UniqueIdsAreAlphanumeric}
 
 -- ---- tests of all elements

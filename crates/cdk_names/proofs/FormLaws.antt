@@ -1,11 +1,11 @@
 -- What a name of either form has, and which unique ids are logical names.
-use Rattle.std.proofs.Common.{◌≡◌, ℕ, zero, suc, ◌+◌, ◌<◌, ◌≤◌, List, [], ◌∷◌, ◌++◌, length, take, get_or, Bool, true, false, cond, ◌&&◌, ◌||◌, refl, sym, ap, subst, ◌∙◌, arith, IsAscii, IsSomeAnd, filter, flat_map, nat_le, nat_eq}
+use Rattle.std.proofs.Common.{◌≡◌, ℕ, zero, suc, ◌+◌, ◌<◌, List, [], ◌∷◌, ◌++◌, length, length-append, length-drop, codes, min, ◌-◌, take, Bool, true, false, cond, ◌&&◌, refl, sym, ap, subst, ◌∙◌, arith, IsAscii, IsSomeAnd, filter, flat_map, nat_le}
 use Rattle.std.proofs.lemmas.Bool.Decides.{nat_tests}
 use Rattle.std.specs.Char.{is_ascii_alphabetic, is_ascii_alphanumeric}
 use Rattle.std.specs.List.{list_all, join_with_byte}
-use Rattle.cdk_names.specs.Names.{is_visible, visible, is_shown, unrepeated, unrepeated_after, alphanumerics, hash, human, hashed_name, name_of_visible, unique_id}
-use Rattle.cdk_names.specs.Forms.{is_stack_name_byte, is_logical, is_stack_name}
-use Rattle.cdk_names.specs.Laws.{IsAlphanumericName, LetterFirstIsLogical, LogicalNamesAreAlphanumeric, StackNamesAreAscii}
+use Rattle.cdk_names.specs.Names.{visible, is_shown, unrepeated_after, alphanumerics, hash, hashed_name, name_of_visible}
+use Rattle.cdk_names.specs.Forms.{is_stack_name_byte, is_logical, last_of}
+use Rattle.cdk_names.specs.Laws.{IsAlphanumericName, LetterFirstIsLogical, LogicalNamesAreAlphanumeric, StackNamesAreAscii, ExportNamesFit}
 use Rattle.cdk_names.proofs.Alphanumerics.{and_both, both_and, hashed_name_lem, single_name}
 
 letter_is_alphanumeric : (c : ℕ) → is_ascii_alphabetic c ≡ true → is_ascii_alphanumeric c ≡ true
@@ -84,3 +84,9 @@ pub letter_first_lem : LetterFirstIsLogical
 letter_first_lem c s cs letter seen shown =
     let first : visible ((c ∷ s) ∷ cs) ≡ (c ∷ s) ∷ visible cs = rw seen in
     subst (λ vs. IsSomeAnd (name_of_visible vs) (λ name. is_logical name ≡ true)) (sym first) (visible_letter c s (visible cs) letter shown)
+
+pub export_name_lem : ExportNamesFit
+export_name_lem stack logical h =
+    let end = last_of (254 - length stack) logical in
+    let parts : length (stack ++ codes ":" ++ end) ≡ min 255 (length stack + 1 + length logical) = omega (arith, length-append (stack ++ codes ":") end, length-append stack (codes ":"), length-drop (length logical - (254 - length stack)) logical) in
+    parts

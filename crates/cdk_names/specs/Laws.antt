@@ -1,9 +1,9 @@
 -- What follows from the rules of names, for the crates above (own).
-use Rattle.std.specs.Prelude.{◌≡◌, ℕ, ◌≤◌, List, ◌∷◌, length, codes, false, true, IsTrue, IsFalse, IfSome, IsSomeAnd, IsAscii}
+use Rattle.std.specs.Prelude.{◌≡◌, ℕ, ◌+◌, ◌≤◌, min, List, ◌∷◌, length, IsTrue, IfSome, IsSomeAnd, IsAscii}
 use Rattle.std.specs.Char.{is_ascii_alphabetic, is_ascii_alphanumeric}
 use Rattle.std.specs.List.{list_all}
 use Rattle.cdk_names.specs.Names.{is_visible, is_shown, unique_id}
-use Rattle.cdk_names.specs.Forms.{is_logical, is_stack_name}
+use Rattle.cdk_names.specs.Forms.{is_logical, is_stack_name, export_name}
 
 -- letters and digits of ASCII alone, at most 255
 pub record IsAlphanumericName (name : List ℕ) : Type 0 where
@@ -23,3 +23,7 @@ LogicalNamesAreAlphanumeric = (name : List ℕ) → IsTrue (is_logical name) →
 
 abbrev pub StackNamesAreAscii : Type 0
 StackNamesAreAscii = (name : List ℕ) → IsTrue (is_stack_name name) → (length name ≤ 128) × IsAscii name
+
+-- an export name is cut only as far as it must be
+abbrev pub ExportNamesFit : Type 0
+ExportNamesFit = (stack logical : List ℕ) → length stack ≤ 128 → length (export_name stack logical) ≡ min 255 (length stack + 1 + length logical)

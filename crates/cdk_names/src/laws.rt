@@ -1,5 +1,5 @@
 // What the crates above may rely on: each function stands for the law in its contract, and does nothing.
-ghost use Rattle.cdk_names.specs.Laws.{UniqueIdsAreAlphanumeric, LetterFirstIsLogical, LogicalNamesAreAlphanumeric, StackNamesAreAscii};
+ghost use Rattle.cdk_names.specs.Laws.{UniqueIdsAreAlphanumeric, LetterFirstIsLogical, LogicalNamesAreAlphanumeric, StackNamesAreAscii, ExportNamesFit};
 
 /// The law that a unique id has letters and digits of ASCII alone, at most 255.
 pub fn unique_ids_are_alphanumeric()
@@ -20,4 +20,9 @@ pub fn logical_names_are_alphanumeric()
 /// The law that a stack name is ASCII, of at most 128.
 pub fn stack_names_are_ascii()
     ensures { StackNamesAreAscii }
+{}
+
+/// The law that an export name is whole where it has at most 255 characters, and else has 255.
+pub fn export_names_fit()
+    ensures { ExportNamesFit }
 {}
