@@ -1,2 +1,4 @@
 pub mod Back
+pub mod Canonical
 pub mod Laid
+pub mod ReadValues
