@@ -43,7 +43,11 @@ impl<R: std::rt::Files + Drop> DiskFiles<R> {
 const PIECE: usize = 4096;
 
 // Reads to the end, or to one byte past the limit. A read that gives nothing is the end.
-fn read_up_to<R: Read>(alloc: Global, file: &mut R, limit: usize) -> Result<Vec<u8>, ReadError>
+pub(crate) fn read_up_to<R: Read>(
+    alloc: Global,
+    file: &mut R,
+    limit: usize,
+) -> Result<Vec<u8>, ReadError>
     ensures short { IfOk result (λ v. vec_len v ≤ limit) }
     ensures all { IfOk result (λ v. AreAll (R.remaining file.old) v.items) }
     ensures too_long { IsErrOf result TooLong → IsOver (R.remaining file.old) limit }

@@ -109,7 +109,7 @@ pub(crate) fn find<'a>(store: &'a [u8], log: &[Change], name: &str) -> Option<&'
 // Takes a file out, if it is there.
 pub(crate) fn remove_file(store: &[u8], log: &mut Vec<Change>, name: &str)
     requires lies { log_lies_in (length store.now) log.old.items ≡ true }
-    requires room { is_some (map.get (files_of store.now log.old.items) name.now) ≡ true → vec_len log.old < vec_capacity log.old }
+    requires room { vec_len log.old + map.len (files_of store.now log.old.items) ≤ vec_capacity log.old }
     ensures files { files_of store.now log.new.items ≡ map.remove (files_of store.now log.old.items) name.now }
     ensures lies { log_lies_in (length store.now) log.new.items ≡ true }
     ensures room { vec_len log.new + map.len (files_of store.now log.new.items) ≤ vec_len log.old + map.len (files_of store.now log.old.items) }
