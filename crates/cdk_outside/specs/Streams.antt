@@ -17,3 +17,8 @@ TakesAtMost most old new = (bytes : List ℕ) × (Consumes old new bytes) × (le
 -- a prefix of the bytes is appended
 abbrev pub AppendsSome : Option (List ℕ) → Option (List ℕ) → List ℕ → Type 0
 AppendsSome old new bytes = (k : ℕ) × (k ≤ length bytes) × (Appends old new (take k bytes))
+
+-- a standard stream: the bytes that it holds, where its type tells them, and how many writes failed
+pub record StreamState : Type 0 where
+  pub contents : Option (List ℕ)
+  pub faults : ℕ
