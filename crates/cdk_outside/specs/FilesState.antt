@@ -27,6 +27,7 @@ pub record FilesView : Type 0 where
   pub failed_read : Option (List ℕ)
   pub failed_write : Option (List ℕ)
 
+-- a state is stored as the tuple of its fields
 abbrev pub state_code : Coded FilesState
 state_code =
     code_by (map.FinMap (slice_cmp nat_cmp) (List ℕ) × (set.FinSet (slice_cmp nat_cmp) × (ℕ × (ℕ × (List ℕ × (ℕ × (ℕ × ℕ)))))))
@@ -35,6 +36,7 @@ state_code =
     (λ p. record { files = p.0; directories = p.1.0; entries = p.1.1.0; room = p.1.1.1.0; listed = p.1.1.1.1.0; calls = p.1.1.1.1.1.0; read_faults = p.1.1.1.1.1.1.0; write_faults = p.1.1.1.1.1.1.1 })
     (λ _. refl)
 
+-- a view is stored as the tuple of its fields
 abbrev pub view_code : Coded FilesView
 view_code =
     code_by (FilesState × (Option (List ℕ) × Option (List ℕ)))
@@ -64,7 +66,7 @@ is_next_listed s = is_listed s.listed (next_count s.calls)
 abbrev pub has_room : FilesState → ℕ → Bool
 has_room s bytes = nat_lt 0 s.entries && nat_le bytes s.room
 
--- the state after a call that isn't a read, before its failure is counted
+-- a call is counted
 abbrev pub with_call : FilesState → FilesState
 with_call s = record s { calls = next_count s.calls }
 
@@ -103,6 +105,7 @@ read_answer s name limit = if is_next_listed s then Err Failed else bytes_within
 abbrev pub read_succeeds : FilesState → List ℕ → Bool
 read_succeeds s name = not (is_next_listed s) && is_some (map.get s.files name)
 
+-- the state after a read
 abbrev pub after_read : FilesState → List ℕ → FilesState
 after_read s name =
     record s { calls = next_count s.calls; read_faults = if read_succeeds s name then s.read_faults else next_count s.read_faults }
@@ -120,6 +123,7 @@ abbrev pub with_put : List ℕ → List ℕ → FilesState → FilesState
 with_put name bytes s =
     if has_room s (length name + length bytes) then (if is_next_listed s then with_half name bytes s else with_file name bytes s) else s
 
+-- the state after a put
 abbrev pub after_put : FilesState → List ℕ → List ℕ → FilesState
 after_put s name bytes = with_call (with_outcome (put_succeeds s name bytes) (with_put name bytes s))
 
@@ -127,6 +131,7 @@ after_put s name bytes = with_call (with_outcome (put_succeeds s name bytes) (wi
 abbrev pub make_dir_succeeds : FilesState → List ℕ → Bool
 make_dir_succeeds s name = not (is_next_listed s) && has_room s (length name)
 
+-- the state after the making of a directory
 abbrev pub after_make_dir : FilesState → List ℕ → FilesState
 after_make_dir s name =
     with_call (with_outcome (make_dir_succeeds s name) (if make_dir_succeeds s name then with_directory name s else s))
@@ -135,10 +140,11 @@ after_make_dir s name =
 abbrev pub remove_succeeds : FilesState → Bool
 remove_succeeds s = not (is_next_listed s)
 
+-- the state after a removal
 abbrev pub after_remove : FilesState → List ℕ → FilesState
 after_remove s name = with_call (with_outcome (remove_succeeds s) (if remove_succeeds s then without_file name s else s))
 
--- the answer of a read is this one, or want of memory in place of the bytes
+-- the answer of a read is this one, or want of memory in place of its bytes
 abbrev pub IsAnswer : {T : Type 0} → (T → List ℕ) → Result T ReadError → Result (List ℕ) ReadError → Type 0
 IsAnswer items (Ok v) answer = answer ≡ Ok (items v)
 IsAnswer items (Err TooLong) answer = answer ≡ Err TooLong

@@ -5,6 +5,7 @@ use Rattle.cdk_outside.specs.declared.memory_files.MemFiles.TheInside.{Inside}
 use Rattle.cdk_outside.specs.FilesState.{FilesView}
 use Rattle.cdk_outside.specs.Stored.{files_of, log_lies_in, directories_of, names_lie_in}
 
+-- what a clause sees of the fields
 abbrev pub view_of : Inside → FilesView
 view_of m = record {
   state = record {

@@ -1,4 +1,4 @@
-// The files of the disk. They tell neither contents nor names.
+// The files of the disk: the trusted edge to the system's files.
 ghost use Rattle.std.specs.Prelude.{◌≡◌, ◌≤◌, ◌+◌, None, IfOk, IsErrOf, vec_len};
 ghost use Rattle.cdk_outside.specs.declared.traits.ReadError.TheVariants.{TooLong};
 ghost use Rattle.cdk_outside.specs.Streams.{AreAll, IsOver, TakesAtMost};

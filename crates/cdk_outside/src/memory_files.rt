@@ -172,9 +172,11 @@ impl Files for MemFiles {
     fn read(&mut self, alloc: Global, name: &str, limit: usize) -> Result<Vec<u8>, ReadError>
         ensures bytes { IfOk result (λ v. Holds (Some self.old.state.files) name.now v.items) }
         ensures short { IfOk result (λ v. vec_len v ≤ limit) }
-        ensures too_long { IsErrOf result TooLong → HoldsOver (Some self.old.state.files) name.now limit }
+        ensures too_long { IsErrOf result TooLong → HoldsOver (Some self.old.state.files) name.now
+            limit }
         ensures never_falls { self.old.state.read_faults ≤ self.new.state.read_faults }
-        ensures noted { ReadNoted result self.old.state.read_faults self.new.state.read_faults self.old.failed_read self.new.failed_read name.now }
+        ensures noted { ReadNoted result self.old.state.read_faults self.new.state.read_faults
+            self.old.failed_read self.new.failed_read name.now }
         ensures files { Some self.new.state.files ≡ Some self.old.state.files }
         ensures directories { Some self.new.state.directories ≡ Some self.old.state.directories }
         ensures write_faults { self.new.state.write_faults ≡ self.old.state.write_faults }
@@ -207,10 +209,13 @@ impl Files for MemFiles {
     /// asked, listed or not, the file stays as before. Else a listed call leaves the first half of the bytes, rounded
     /// down, and uses an entry and the bytes of the name and of that half; with no bytes it leaves the file as before.
     fn put(&mut self, name: &str, bytes: &[u8]) -> Result<(), Failed>
-        ensures ok { OnOk result (Some self.new.state.files ≡ with_file name.now bytes.now (Some self.old.state.files)) }
-        ensures err { OnErr result (LeavesPart (Some self.old.state.files) (Some self.new.state.files) name.now bytes.now) }
+        ensures ok { OnOk result (Some self.new.state.files ≡ with_file name.now bytes.now
+            (Some self.old.state.files)) }
+        ensures err { OnErr result (LeavesPart (Some self.old.state.files)
+            (Some self.new.state.files) name.now bytes.now) }
         ensures never_falls { self.old.state.write_faults ≤ self.new.state.write_faults }
-        ensures noted { CallNoted result self.old.state.write_faults self.new.state.write_faults self.old.failed_write self.new.failed_write name.now }
+        ensures noted { CallNoted result self.old.state.write_faults self.new.state.write_faults
+            self.old.failed_write self.new.failed_write name.now }
         ensures directories { Some self.new.state.directories ≡ Some self.old.state.directories }
         ensures read_faults { self.new.state.read_faults ≡ self.old.state.read_faults }
         ensures failed_read { self.new.failed_read ≡ self.old.failed_read }
@@ -251,10 +256,13 @@ impl Files for MemFiles {
 
     /// Fails exactly where it is listed or too few entries or bytes are left.
     fn make_dir(&mut self, name: &str) -> Result<(), Failed>
-        ensures ok { OnOk result (Some self.new.state.directories ≡ with_directory name.now (Some self.old.state.directories)) }
-        ensures err { OnErr result (Some self.new.state.directories ≡ Some self.old.state.directories) }
+        ensures ok { OnOk result (Some self.new.state.directories ≡ with_directory name.now
+            (Some self.old.state.directories)) }
+        ensures err { OnErr result (Some self.new.state.directories ≡ Some
+            self.old.state.directories) }
         ensures never_falls { self.old.state.write_faults ≤ self.new.state.write_faults }
-        ensures noted { CallNoted result self.old.state.write_faults self.new.state.write_faults self.old.failed_write self.new.failed_write name.now }
+        ensures noted { CallNoted result self.old.state.write_faults self.new.state.write_faults
+            self.old.failed_write self.new.failed_write name.now }
         ensures files { Some self.new.state.files ≡ Some self.old.state.files }
         ensures read_faults { self.new.state.read_faults ≡ self.old.state.read_faults }
         ensures failed_read { self.new.failed_read ≡ self.old.failed_read }
@@ -279,10 +287,12 @@ impl Files for MemFiles {
 
     /// Fails exactly where it is listed.
     fn remove(&mut self, name: &str) -> Result<(), Failed>
-        ensures ok { OnOk result (Some self.new.state.files ≡ without_file name.now (Some self.old.state.files)) }
+        ensures ok { OnOk result (Some self.new.state.files ≡ without_file name.now
+            (Some self.old.state.files)) }
         ensures err { OnErr result (Some self.new.state.files ≡ Some self.old.state.files) }
         ensures never_falls { self.old.state.write_faults ≤ self.new.state.write_faults }
-        ensures noted { CallNoted result self.old.state.write_faults self.new.state.write_faults self.old.failed_write self.new.failed_write name.now }
+        ensures noted { CallNoted result self.old.state.write_faults self.new.state.write_faults
+            self.old.failed_write self.new.failed_write name.now }
         ensures directories { Some self.new.state.directories ≡ Some self.old.state.directories }
         ensures read_faults { self.new.state.read_faults ≡ self.old.state.read_faults }
         ensures failed_read { self.new.failed_read ≡ self.old.failed_read }
