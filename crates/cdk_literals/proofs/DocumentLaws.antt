@@ -7,7 +7,8 @@ use Rattle.cdk_base.specs.Pretty.{IsWhole, IsCanonical, MembersAreCanonical}
 use Rattle.cdk_base.proofs.Canonical.{MembersAreOrdered-put, members_depth-put, members_hold_marker-put}
 use Rattle.cdk_literals.specs.LiteralStack.{LiteralResource, LiteralStack}
 use Rattle.cdk_literals.specs.Documents.{with_members, text, path_of, unless_empty, optional_member, template_resource, template_resources, template, logical_id_entry, metadata, stack_artifact, tree_artifact, manifest, resource_node, resource_nodes, tree_file}
-use Rattle.cdk_literals.proofs.WrittenLaws.{is_safe, safe_text, safe_name, safe_append, and_true, literals_depth, literals_marker, IsWrittenResource, AllWritten, IsWrittenStack}
+use Rattle.cdk_literals.specs.Written.{IsWrittenResource, AllWritten, IsWrittenStack}
+use Rattle.cdk_literals.proofs.WrittenLaws.{is_safe, safe_text, safe_name, safe_append, and_true, literals_depth, literals_marker}
 
 -- what each member that is put keeps, all of them keep
 kept : (P : Members → Type 0) (key : LiteralResource → List ℕ) (value : LiteralResource → Data) (rs : List LiteralResource) → ((r : LiteralResource) → IsWrittenResource r → (ms : Members) → P ms → P (put (key r) (value r) ms)) → AllWritten rs → (ms : Members) → P ms → P (with_members key value rs ms)

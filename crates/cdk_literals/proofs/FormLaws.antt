@@ -14,7 +14,8 @@ use Rattle.cdk_base.specs.Pretty.{IsOrdered, ItemsAreOrdered, MembersAreOrdered}
 use Rattle.cdk_names.specs.Forms.{is_logical}
 use Rattle.cdk_literals.specs.LiteralStack.{is_literal_resource, is_literal_stack, is_stack_id, listed, children_of, properties_of, resource_of, stack_of, text_at}
 use Rattle.cdk_literals.specs.Form.{only_stack, stack_in, is_one_stack, is_stack_document, is_application, has_keys}
-use Rattle.cdk_literals.proofs.WrittenLaws.{and_front, and_back, not_true, literals_canonical, IsWrittenResource, AllWritten, IsWrittenStack}
+use Rattle.cdk_literals.specs.Written.{IsWrittenResource, AllWritten, IsWrittenStack}
+use Rattle.cdk_literals.proofs.WrittenLaws.{and_front, and_back, not_true, literals_canonical}
 
 module _ (W : Num → Type 0) where
   picked : (o : Ordering) (e : Data) (rest : Option Data) (P : Option Data → Type 0) → P (Some e) → P rest → P (match_ordering o rest (Some e) rest)

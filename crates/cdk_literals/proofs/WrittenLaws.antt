@@ -1,6 +1,6 @@
 -- What the documents of a stack of literals have: ascending keys and whole numbers, little depth, and no marker's beginning.
 use Rattle.std.proofs.Common.{◌≡◌, ℕ, pos, negsuc, List, [], ◌∷◌, ◌++◌, Bool, true, false, ◌&&◌, nat_eq, refl, sym, arith, true≢false}
-use Rattle.std.specs.Prelude.{⊤, not, codes, ◌==◌}
+use Rattle.std.specs.Prelude.{not, codes, ◌==◌}
 use Rattle.std.specs.List.{list_all, starts_with}
 use Rattle.std.specs.Char.{is_ascii_alphabetic, is_ascii_alphanumeric}
 use Rattle.std.proofs.lemmas.Bool.Decides.{nat_tests}
@@ -10,7 +10,7 @@ use Rattle.cdk_base.specs.Marker.{begins_marker, has_marker, holds_marker, membe
 use Rattle.cdk_base.specs.Pretty.{IsWhole, MembersAreOrdered, IsCanonical, MembersAreCanonical}
 use Rattle.cdk_base.proofs.Canonical.{or_false}
 use Rattle.cdk_names.specs.Forms.{is_logical}
-use Rattle.cdk_literals.specs.LiteralStack.{LiteralResource, LiteralStack, is_literal, are_literals}
+use Rattle.cdk_literals.specs.LiteralStack.{is_literal, are_literals}
 
 pub and_front : (a b : Bool) → (a && b) ≡ true → a ≡ true
 and_front true b h = refl
@@ -120,19 +120,3 @@ safe_name (c ∷ s) h = and_true (is_safe c) _ (safe_first c (and_front _ _ h)) 
 pub safe_append : (s t : List ℕ) → list_all is_safe s ≡ true → list_all is_safe t ≡ true → list_all is_safe (s ++ t) ≡ true
 safe_append [] t h g = g
 safe_append (c ∷ s) t h g = and_true (is_safe c) _ (and_front _ _ h) (safe_append s t (and_back (is_safe c) _ h) g)
-
--- ---- a stack that is written
-
-pub record IsWrittenResource (r : LiteralResource) : Type 0 where
-  pub id : is_logical r.id ≡ true
-  pub type_is : has_marker r.resource_type ≡ false
-  pub literals : are_literals r.properties ≡ true
-  pub ordered : MembersAreCanonical r.properties
-
-abbrev pub AllWritten : List LiteralResource → Type 0
-AllWritten [] = ⊤
-AllWritten (r ∷ rs) = IsWrittenResource r × AllWritten rs
-
-pub record IsWrittenStack (s : LiteralStack) : Type 0 where
-  pub id : is_logical s.id ≡ true
-  pub resources : AllWritten s.resources
