@@ -1,1 +1,3 @@
 pub mod AssemblyLemmas
+pub mod CauseLemmas
+pub mod StepsLemmas

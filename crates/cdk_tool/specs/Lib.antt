@@ -1,2 +1,4 @@
 pub mod Assembly
+pub mod Causes
+pub mod Status
 pub mod Words
