@@ -1,0 +1,9 @@
+pub mod Conditions
+pub mod Faults
+pub mod Outcomes
+pub mod Sections
+pub mod Stack
+pub mod SubText
+pub mod Template
+pub mod Texts
+pub mod Values
