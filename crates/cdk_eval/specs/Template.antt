@@ -147,7 +147,7 @@ is_barred_key k = bytes_eq k (codes "Fn::If") || (bytes_eq k (codes "Fn::ImportV
 -- the intrinsic of this key, at its argument as it stands, evaluated, and in parts
 abbrev pub form_outcome : Scope → List ℕ → Data → Outcome → List Part → Outcome
 form_outcome s k d o ps =
-    if s.is_operand && is_barred_key k then Fault BadIntrinsic
+    if is_barred_key k && s.is_operand then Fault BadIntrinsic
     else (if bytes_eq k (codes "Ref") then ref_form s d
     else (if bytes_eq k (codes "Fn::GetAtt") then att_form s ps
     else (if bytes_eq k (codes "Fn::Join") then join_form ps
