@@ -1,10 +1,10 @@
 -- What a condition of a template comes to (CloudFormation's condition functions; loops and faults are own).
 use Rattle.std.specs.Prelude.{ℕ, zero, suc, ◌&&◌, ◌||◌, List, [], ◌∷◌, ◌++◌, length, Bool, true, false, not, Option, Some, None, nat_le, if◌then◌else◌, bytes_eq, codes}
-use Rattle.std.specs.List.{list_any}
 use Rattle.serde_json.specs.Data.{Data, null, boolean, number, string, array, object, Items, no_items, item, Members, no_members, member}
 use Rattle.serde_json.specs.Find.{get_member}
 use Rattle.cdk_base.specs.Json.{text_of}
 use Rattle.cdk_eval.specs.declared.fault.EvalFault.TheVariants.{NotText, UnknownName, BadIntrinsic, ConditionLoop}
+use Rattle.cdk_eval.specs.Reach.{comes_to}
 use Rattle.cdk_eval.specs.Outcomes.{Outcome, Value, Gone, Fault, Truth, Holds, Untold}
 
 -- ---- one condition
@@ -150,8 +150,7 @@ count (member k d ms) = suc (count ms)
 
 -- from the condition `c` one comes to `goal` by at most so many steps, each from a condition to one that it names
 abbrev pub reaches : Members → ℕ → List ℕ → List ℕ → Bool
-reaches cs zero goal c = false
-reaches cs (suc n) goal c = list_any (λ d. bytes_eq d goal || reaches cs n goal d) (names_of (get_member c cs))
+reaches cs = comes_to (λ c. names_of (get_member c cs))
 
 -- it comes back to itself; no such way needs more steps than there are conditions
 abbrev pub is_loop : Members → List ℕ → Bool

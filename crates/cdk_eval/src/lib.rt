@@ -3,5 +3,7 @@
 #![tactic(auto)]
 
 mod fault;
+mod role;
 
 pub use fault::EvalFault;
+pub use role::Role;
