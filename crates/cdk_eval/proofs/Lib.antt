@@ -1,0 +1,5 @@
+mod ExampleConditions
+mod ExampleFiles
+mod ExampleStacks
+mod ExampleValues
+mod Shown
