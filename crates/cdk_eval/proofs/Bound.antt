@@ -12,7 +12,7 @@ use Rattle.cdk_eval.specs.declared.fault.EvalFault.TheVariants.{BadIntrinsic, Co
 use Rattle.cdk_eval.specs.Outcomes.{Outcome, Truth, Untold}
 use Rattle.cdk_eval.specs.Reach.{is_among, comes_to}
 use Rattle.cdk_eval.specs.Conditions.{is_few, all_hold, few_form, not_form, name_form, equals_form, truth_of, single_truth, part_truths, item_truths, one_name, item_count, has_items, is_one, names_in, single_names, part_names, item_names, names_of, count, is_loop, found_truth, truth_within, BoundSuffices, LoopsAreFound, NamesAreOpened}
-use Rattle.cdk_eval.proofs.Reach.{IsIn, in_front, in_back, in_when_among, same_bytes, bytes_same, IsPath, path_returns}
+use Rattle.cdk_eval.proofs.Reach.{IsIn, in_front, in_back, in_when_among, bytes_same, IsPath, path_returns}
 use Rattle.cdk_eval.proofs.Unseen.{unseen, unseen_all, unseen_less}
 use Rattle.cdk_eval.proofs.Found.{found_within}
 
@@ -187,6 +187,7 @@ loops_found cs n c way = at (found_within (leads_of cs) c (keys cs) others n c w
   where
     others : (d : List ℕ) → IsIn d (keys cs) ⊎ (leads_of cs d ≡ [])
     others d = elim (found_or_not d cs) [ inl i ↦ inl i | inr e ↦ inr (ap names_of e) ]
+
     at : comes_to (leads_of cs) (length (keys cs)) c c ≡ true → is_loop cs c ≡ true
     at t = ap (λ n. comes_to (leads_of cs) n c c) (sym (key_count cs)) ∙ t
 

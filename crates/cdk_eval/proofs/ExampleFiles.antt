@@ -1,9 +1,13 @@
 -- Worked readings of files: the first that misses its form, and where. By computation.
-use Rattle.std.proofs.Common.{refl}
+use Rattle.std.proofs.Common.{◌≡◌, refl}
 use Rattle.std.specs.Fmt.{digits}
 use Rattle.serde_json.proofs.OnLiterals.{serde_json_on_literals}
 use Rattle.std.specs.Prelude.{[], ◌∷◌}
-use Rattle.cdk_eval.proofs.Shown.{Reports}
+use Rattle.std.proofs.Common.{None}
+use Rattle.std.specs.Prelude.{codes}
+use Rattle.serde_json.specs.Data.{Data}
+use Rattle.cdk_eval.specs.Manifest.{stacks_of, cyclic, in_order, ids, AreApart}
+use Rattle.cdk_eval.proofs.Shown.{Reports, json}
 
 -- A manifest that is no JSON.
 manifest_cut_short : Reports
@@ -228,3 +232,20 @@ first_wrong_by_bytes : Reports
     "ValuesShape /exports/E"
 unfolding serde_json_on_literals digits
 first_wrong_by_bytes = refl
+
+-- ---- a manifest that meets the premises of the law on orders
+
+abbrev manifest : Data
+manifest = json "{\"artifacts\":{\"A\":{\"type\":\"aws:cloudformation:stack\",\"properties\":{\"templateFile\":\"A.template.json\"},\"dependencies\":[\"C\"]},\"B\":{\"type\":\"aws:cloudformation:stack\",\"properties\":{\"templateFile\":\"B.template.json\"},\"dependencies\":[\"D\",\"Tree\"]},\"C\":{\"type\":\"aws:cloudformation:stack\",\"properties\":{\"templateFile\":\"C.template.json\"}},\"D\":{\"type\":\"aws:cloudformation:stack\",\"properties\":{\"templateFile\":\"D.template.json\"},\"dependencies\":[\"A\"]}},\"version\":\"36.0.0\"}"
+
+apart : AreApart (stacks_of manifest)
+unfolding serde_json_on_literals digits
+apart = (refl, (refl, (refl, (refl, tt))))
+
+no_cycle_there : cyclic (stacks_of manifest) ≡ None
+unfolding serde_json_on_literals digits
+no_cycle_there = refl
+
+in_this_order : ids (in_order (stacks_of manifest)) ≡ codes "C" ∷ codes "A" ∷ codes "D" ∷ codes "B" ∷ []
+unfolding serde_json_on_literals digits
+in_this_order = refl

@@ -1,5 +1,5 @@
 -- A way by names needs no more steps than there are names that lead anywhere.
-use Rattle.std.proofs.Common.{◌≡◌, ℕ, zero, suc, ◌+◌, ◌≤◌, List, [], ◌∷◌, length, Bool, true, false, Option, Some, None, refl, sym, ap, ◌∙◌, inl, inr, arith}
+use Rattle.std.proofs.Common.{◌≡◌, ℕ, zero, suc, ◌≤◌, List, [], ◌∷◌, length, Bool, true, false, refl, sym, ap, ◌∙◌, inl, inr, arith}
 use Rattle.std.specs.Prelude.{◌⊎◌, ◌||◌, bytes_eq, if◌then◌else◌}
 use Rattle.std.specs.List.{list_any}
 use Rattle.cdk_eval.specs.Reach.{comes_to}
@@ -47,7 +47,7 @@ module _ (leads : List ℕ → List (List ℕ)) (goal : List ℕ) where
   none_new k (x ∷ xs) h c i t = at (comes_to leads k goal x) (comes_to leads (suc k) goal x) refl refl h i (λ h i. none_new k xs h c i t)
     where
       at : (a b : Bool) → comes_to leads k goal x ≡ a → comes_to leads (suc k) goal x ≡ b → one_more_if b (held (suc k) xs) ≤ one_more_if a (held k xs) → IsIn c (x ∷ xs)
-        → (held (suc k) xs ≤ held k xs → IsIn c xs → comes_to leads k goal c ≡ true) → comes_to leads k goal c ≡ true
+          → (held (suc k) xs ≤ held k xs → IsIn c xs → comes_to leads k goal c ≡ true) → comes_to leads k goal c ≡ true
       at true b e f h (inl s) later = ap (comes_to leads k goal) (sym s) ∙ e
       at true true e f h (inr i) later = later (omega (arith, h)) i
       at true false e f h (inr i) later = let g = comes_within leads k (suc k) goal x (omega arith) e in cc
@@ -60,7 +60,7 @@ module _ (leads : List ℕ → List (List ℕ)) (goal : List ℕ) where
   all_held k (x ∷ xs) h c i = at (comes_to leads k goal x) refl h i (λ h i. all_held k xs h c i)
     where
       at : (b : Bool) → comes_to leads k goal x ≡ b → length (x ∷ xs) ≤ one_more_if b (held k xs) → IsIn c (x ∷ xs)
-        → (length xs ≤ held k xs → IsIn c xs → comes_to leads k goal c ≡ true) → comes_to leads k goal c ≡ true
+          → (length xs ≤ held k xs → IsIn c xs → comes_to leads k goal c ≡ true) → comes_to leads k goal c ≡ true
       at true e h (inl s) later = ap (comes_to leads k goal) (sym s) ∙ e
       at true e h (inr i) later = later (omega (arith, h)) i
       at false e h i later = absurd (omega (arith, h, held_most k xs))
@@ -73,7 +73,7 @@ module _ (leads : List ℕ → List (List ℕ)) (goal : List ℕ) where
   settles k f zero c t = cc
   settles k f (suc n) c t =
       f c (any_more (λ d. bytes_eq d goal || comes_to leads n goal d) (λ d. bytes_eq d goal || comes_to leads k goal d)
-        (λ d e. or_more (bytes_eq d goal) (comes_to leads n goal d) (comes_to leads k goal d) (settles k f n d) e) (leads c) t)
+      (λ d e. or_more (bytes_eq d goal) (comes_to leads n goal d) (comes_to leads k goal d) (settles k f n d) e) (leads c) t)
 
   module _ (names : List (List ℕ)) (others : (c : List ℕ) → IsIn c names ⊎ (leads c ≡ [])) where
     in_names : (k : ℕ) (c : List ℕ) → comes_to leads k goal c ≡ true → IsIn c names
@@ -90,6 +90,7 @@ module _ (leads : List ℕ → List (List ℕ)) (goal : List ℕ) where
       where
         later : IsSettled k → IsSettled (suc k)
         later s n c t = comes_within leads k (suc k) goal c (omega arith) (s n c t)
+
         at : IsSettled k ⊎ (k ≤ held k names) → (held (suc k) names ≤ held k names) ⊎ (suc (held k names) ≤ held (suc k) names) → IsSettled (suc k) ⊎ (suc k ≤ held (suc k) names)
         at (inl s) w = inl (later s)
         at (inr h) (inl same) = inl (later (settles k (λ c t. none_new k names same c (in_names (suc k) c t) t)))

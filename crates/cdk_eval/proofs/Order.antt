@@ -1,10 +1,10 @@
 -- The order of a manifest's stacks keeps their dependencies, and leaves none out.
-use Rattle.std.proofs.Common.{◌≡◌, ℕ, zero, suc, ◌+◌, ◌≤◌, List, [], ◌∷◌, length, map, filter, find, cond, not, Bool, true, false, Option, Some, None, refl, sym, ap, subst, ◌∙◌, inl, inr, arith}
-use Rattle.std.specs.Prelude.{◌⊎◌, ◌&&◌, bytes_eq, codes, if◌then◌else◌, option_map, option_and_then, unwrap_or}
-use Rattle.std.specs.List.{list_all, list_any}
+use Rattle.std.proofs.Common.{◌≡◌, ℕ, zero, suc, ◌+◌, ◌≤◌, List, [], ◌∷◌, length, filter, find, cond, not, Bool, true, false, Option, Some, None, refl, sym, ap, subst, ◌∙◌, inl, inr, arith}
+use Rattle.std.specs.Prelude.{◌⊎◌, ◌&&◌, ◌||◌, bytes_eq, codes, if◌then◌else◌, option_map}
+use Rattle.std.specs.List.{list_all}
 use Rattle.serde_json.specs.Data.{Data, Members, no_members, member}
 use Rattle.cdk_eval.specs.Reach.{is_among, comes_to}
-use Rattle.cdk_eval.specs.Manifest.{StackArtifact, artifacts, is_type, stack_ids, stack_at, stack_artifacts, stacks_of, dependencies_of, comes_back, cyclic, is_ready, first_then, placed, in_order, ids, AreApart, CyclesAreFound, StandAfter, OrderKeepsDependencies, OrderIsWhole}
+use Rattle.cdk_eval.specs.Manifest.{StackArtifact, artifacts, is_type, stack_ids, stack_at, stack_artifacts, stacks_of, named_in, dependencies_of, comes_back, cyclic, is_ready, first_then, placed, in_order, ids, AreApart, CyclesAreFound, StandAfter, OrderKeepsDependencies, OrderIsWhole}
 use Rattle.cdk_eval.proofs.Reach.{IsIn, any_in, in_when_among, same_bytes, bytes_same, IsPath, path_returns}
 use Rattle.cdk_eval.proofs.Unseen.{unseen, unseen_all, unseen_less}
 use Rattle.cdk_eval.proofs.Found.{found_within}
@@ -111,7 +111,7 @@ placed_after zero before left = tt
 placed_after (suc n) before left = at (find (is_ready before) left) refl (λ s. placed_after n (s.id ∷ before) (filter (λ r. not (bytes_eq r.id s.id)) left))
   where
     at : (o : Option StackArtifact) → find (is_ready before) left ≡ o → ((s : StackArtifact) → StandAfter (s.id ∷ before) (placed n (s.id ∷ before) (filter (λ r. not (bytes_eq r.id s.id)) left)))
-      → StandAfter before (first_then o (λ s. placed n (s.id ∷ before) (filter (λ r. not (bytes_eq r.id s.id)) left)))
+        → StandAfter before (first_then o (λ s. placed n (s.id ∷ before) (filter (λ r. not (bytes_eq r.id s.id)) left)))
     at None h later = tt
     at (Some s) h later = ((found_some (is_ready before) left s h).1, later s)
 
@@ -135,3 +135,132 @@ known_or_none (s ∷ ss) id = at (bytes_eq s.id id) refl (known_or_none ss id)
 
 pub cycles_found : CyclesAreFound
 cycles_found ss n id way = ap (λ k. comes_to (dependencies_of ss) k id id) (sym (id_count ss)) ∙ found_within (dependencies_of ss) id (ids ss) (known_or_none ss) n id way
+
+-- ---- without a cycle, none is left out
+
+passes : (p : List ℕ → Bool) (xs : List (List ℕ)) (x : List ℕ) → IsIn x (filter p xs) → p x ≡ true
+passes p [] x i = absurd i
+passes p (y ∷ ys) x i = at (p y) refl i (passes p ys x)
+  where
+    at : (b : Bool) → p y ≡ b → IsIn x (cond b (y ∷ filter p ys) (filter p ys)) → (IsIn x (filter p ys) → p x ≡ true) → p x ≡ true
+    at true e (inl same) later = ap p (sym same) ∙ e
+    at true e (inr i) later = later i
+    at false e i later = later i
+
+ids_are : (stacks : List (List ℕ)) (ms : Members) → ids (stack_artifacts stacks ms) ≡ stack_ids ms
+ids_are stacks no_members = refl
+ids_are stacks (member id a ms) = at (is_type (codes "aws:cloudformation:stack") a) (ids_are stacks ms)
+  where
+    at : (b : Bool) → ids (stack_artifacts stacks ms) ≡ stack_ids ms → ids (if b then stack_at stacks id a ∷ stack_artifacts stacks ms else stack_artifacts stacks ms) ≡ (if b then id ∷ stack_ids ms else stack_ids ms)
+    at true h = ap (λ r. id ∷ r) h
+    at false h = h
+
+depends_on : (stacks : List (List ℕ)) (id : List ℕ) (a : Data) (s : StackArtifact) → stack_at stacks id a ≡ s → (d : List ℕ) → IsIn d s.dependencies → is_among d stacks ≡ true
+depends_on stacks id a s e d i = passes (λ x. is_among x stacks) (named_in a) d (subst (λ x. IsIn d x.dependencies) (sym e) i)
+
+depends_on_known : (stacks : List (List ℕ)) (ms : Members) (s : StackArtifact) → Stands s (stack_artifacts stacks ms) → (d : List ℕ) → IsIn d s.dependencies → is_among d stacks ≡ true
+depends_on_known stacks no_members s i d j = absurd i
+depends_on_known stacks (member id a ms) s i d j = at (is_type (codes "aws:cloudformation:stack") a) i (λ i. depends_on_known stacks ms s i d j)
+  where
+    at : (b : Bool) → Stands s (if b then stack_at stacks id a ∷ stack_artifacts stacks ms else stack_artifacts stacks ms) → (Stands s (stack_artifacts stacks ms) → is_among d stacks ≡ true) → is_among d stacks ≡ true
+    at true (inl e) later = depends_on stacks id a s e d j
+    at true (inr i) later = later i
+    at false i later = later i
+
+module _ (ss : List StackArtifact) (apart : AreApart ss)
+    (known : (s : StackArtifact) → Stands s ss → (d : List ℕ) → IsIn d s.dependencies → IsIn d (ids ss))
+    (acyclic : (s : StackArtifact) → Stands s ss → comes_back ss s.id ≡ false) where
+  -- those that are left are of the list, and each of the list stands before or is left
+  record IsRest (before : List (List ℕ)) (left : List StackArtifact) : Type 0 where
+    of_all : (s : StackArtifact) → Stands s left → Stands s ss
+    covers : (id : List ℕ) → IsIn id (ids ss) → (is_among id before ≡ true) ⊎ IsIn id (ids left)
+
+  no_way_back : (id : List ℕ) → IsIn id (ids ss) → comes_back ss id ≡ false
+  no_way_back id i = let r = stack_of id ss i in ap (comes_back ss) (sym r.same) ∙ acyclic r.stack r.there
+
+  module _ (before : List (List ℕ)) (left : List StackArtifact) (rest : IsRest before left) (none_ready : (s : StackArtifact) → Stands s left → is_ready before s ≡ false) where
+    -- what is left depends on what is left
+    next : (id : List ℕ) → IsIn id (ids left) → (e : List ℕ) × IsIn e (dependencies_of ss id) × IsIn e (ids left)
+    next id i =
+        let r = stack_of id left i in
+        let there = rest.of_all r.stack r.there in
+        let w = not_all (λ d. is_among d before) r.stack.dependencies (none_ready r.stack r.there) in
+        (w.0, subst (λ ds. IsIn w.0 ds) (sym (dependencies_at r.stack ss apart there) ∙ ap (dependencies_of ss) r.same) w.1, still w.0 w.2 (rest.covers w.0 (known r.stack there w.0 w.1)))
+      where
+        still : (e : List ℕ) → is_among e before ≡ false → (is_among e before ≡ true) ⊎ IsIn e (ids left) → IsIn e (ids left)
+        still e new (inl old) = cc
+        still e new (inr i) = i
+
+    in_all : (id : List ℕ) → IsIn id (ids left) → IsIn id (ids ss)
+    in_all id i = let r = stack_of id left i in subst (λ n. IsIn n (ids ss)) r.same (id_in r.stack ss (rest.of_all r.stack r.there))
+
+    new_here : (ps : List (List ℕ)) (id : List ℕ) → IsIn id (ids left) → IsPath (dependencies_of ss) ps id → length ps ≤ length ss → is_among id ps ≡ false
+    new_here ps id i path h = at (is_among id ps) refl
+      where
+        at : (b : Bool) → is_among id ps ≡ b → is_among id ps ≡ false
+        at true e = let back = path_returns (dependencies_of ss) ps id (length ss) path h (in_when_among id ps e) in let none = no_way_back id (in_all id i) in cc
+        at false e = e
+
+    endless : (k : ℕ) (ps : List (List ℕ)) (id : List ℕ) → IsIn id (ids left) → IsPath (dependencies_of ss) ps id → length ps + unseen ps (ids ss) ≤ length ss → unseen ps (ids ss) ≤ k → ⊥
+    endless zero ps id i path total h =
+        let less = unseen_less id ps (ids ss) (in_all id i) (new_here ps id i path (omega (arith, total))) in omega (arith, less, h)
+    endless (suc k) ps id i path total h =
+        let less = unseen_less id ps (ids ss) (in_all id i) (new_here ps id i path (omega (arith, total))) in
+        let w = next id i in
+        endless k (id ∷ ps) w.0 w.2 (w.1, path) (omega (arith, total, less)) (omega (arith, h, less))
+
+    one_is_ready : (id : List ℕ) → IsIn id (ids left) → ⊥
+    one_is_ready id i = endless (length ss) [] id i tt (omega (arith, unseen_all (ids ss), id_count ss)) (omega (arith, unseen_all (ids ss), id_count ss))
+
+  abbrev without : StackArtifact → List StackArtifact → List StackArtifact
+  without s left = filter (λ r. not (bytes_eq r.id s.id)) left
+
+  still_left : (s : StackArtifact) (left : List StackArtifact) (id : List ℕ) → bytes_eq id s.id ≡ false → IsIn id (ids left) → IsIn id (ids (without s left))
+  still_left s left id other i =
+      let r = stack_of id left i in
+      let stays_there = stays (λ t. not (bytes_eq t.id s.id)) left r.stack r.there (ap (λ n. not (bytes_eq n s.id)) r.same ∙ ap not other) in
+      subst (λ n. IsIn n (ids (without s left))) r.same (id_in r.stack (without s left) stays_there)
+
+  rest_after : (before : List (List ℕ)) (left : List StackArtifact) (s : StackArtifact) → IsRest before left → IsRest (s.id ∷ before) (without s left)
+  rest_after before left s r = record { of_all = λ t i. r.of_all t (kept_stands (λ u. not (bytes_eq u.id s.id)) left t i); covers = λ id i. at id (bytes_eq id s.id) refl (r.covers id i) }
+    where
+      at : (id : List ℕ) (b : Bool) → bytes_eq id s.id ≡ b → (is_among id before ≡ true) ⊎ IsIn id (ids left) → ((b || is_among id before) ≡ true) ⊎ IsIn id (ids (without s left))
+      at id true e o = inl refl
+      at id false e (inl t) = inl t
+      at id false e (inr i) = inr (still_left s left id e i)
+
+  fewer_left : (n : ℕ) (left : List StackArtifact) (s : StackArtifact) → Stands s left → length left ≤ suc n → length (without s left) ≤ n
+  fewer_left n left s i h = let less = kept_fewer (λ r. not (bytes_eq r.id s.id)) left s i (ap not (same_bytes s.id)) in omega (arith, less, h)
+
+  all_placed : (n : ℕ) (before : List (List ℕ)) (left : List StackArtifact) → IsRest before left → length left ≤ n → (id : List ℕ) → IsIn id (ids left) → IsIn id (ids (placed n before left))
+  all_placed zero before [] r h id i = absurd i
+  all_placed zero before (s ∷ left) r h id i = absurd (omega (arith, h))
+  all_placed (suc n) before left r h id i = at (find (is_ready before) left) refl (λ s there other. all_placed n (s.id ∷ before) (without s left) (rest_after before left s r) (fewer_left n left s there h) id (still_left s left id other i))
+    where
+      at : (o : Option StackArtifact) → find (is_ready before) left ≡ o
+          → ((s : StackArtifact) → Stands s left → bytes_eq id s.id ≡ false → IsIn id (ids (placed n (s.id ∷ before) (without s left))))
+          → IsIn id (ids (first_then o (λ s. placed n (s.id ∷ before) (without s left))))
+      at None e later = absurd (one_is_ready before left r (found_none (is_ready before) left e) id i)
+      at (Some s) e later = here (bytes_eq id s.id) refl
+        where
+          here : (b : Bool) → bytes_eq id s.id ≡ b → IsIn id (s.id ∷ ids (placed n (s.id ∷ before) (without s left)))
+          here true same = inl (sym (bytes_same id s.id same))
+          here false other = inr (later s (found_some (is_ready before) left s e).0 other)
+
+  at_first : IsRest [] ss
+  at_first = record { of_all = λ s i. i; covers = λ id i. inr i }
+
+none_cyclic : (ss : List StackArtifact) → cyclic ss ≡ None → (s : StackArtifact) → Stands s ss → comes_back ss s.id ≡ false
+none_cyclic ss h = found_none (λ s. comes_back ss s.id) ss (at (find (λ s. comes_back ss s.id) ss) h)
+  where
+    at : (o : Option StackArtifact) → option_map (λ s. s.id) o ≡ None → o ≡ None
+    at None h = refl
+    at (Some s) h = cc
+
+pub order_is_whole : OrderIsWhole
+order_is_whole m apart acyclic id i =
+    among_when_in id (ids (in_order (stacks_of m)))
+    (all_placed (stacks_of m) apart known (none_cyclic (stacks_of m) acyclic) (length (stacks_of m)) [] (stacks_of m) (at_first (stacks_of m) apart known (none_cyclic (stacks_of m) acyclic)) (omega arith) id (in_when_among id (ids (stacks_of m)) i))
+  where
+    known : (s : StackArtifact) → Stands s (stacks_of m) → (d : List ℕ) → IsIn d s.dependencies → IsIn d (ids (stacks_of m))
+    known s there d j = subst (IsIn d) (sym (ids_are (stack_ids (artifacts m)) (artifacts m))) (in_when_among d (stack_ids (artifacts m)) (depends_on_known (stack_ids (artifacts m)) (artifacts m) s there d j))

@@ -36,12 +36,16 @@ abbrev pub texts_in : Items → List (List ℕ)
 texts_in no_items = []
 texts_in (item d ds) = text_onto (as_str d) (texts_in ds)
 
+-- what it depends on
+abbrev pub named_in : Data → List (List ℕ)
+named_in artifact = texts_in (unwrap_or (option_and_then as_array (get (codes "dependencies") artifact)) no_items)
+
 abbrev pub stack_at : List (List ℕ) → List ℕ → Data → StackArtifact
 stack_at stacks artifact_id a = record {
   id = artifact_id;
   name = unwrap_or (property (codes "stackName") a) artifact_id;
   file = unwrap_or (property (codes "templateFile") a) [];
-  dependencies = filter (λ d. is_among d stacks) (texts_in (unwrap_or (option_and_then as_array (get (codes "dependencies") a)) no_items));
+  dependencies = filter (λ d. is_among d stacks) (named_in a);
 }
 
 abbrev pub stack_artifacts : List (List ℕ) → Members → List StackArtifact

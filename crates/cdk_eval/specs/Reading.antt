@@ -1,14 +1,10 @@
 -- The stacks of an assembly that is read from files, in evaluation order (CDK's cloud assembly; order and refusals are
 -- own): an assembly's own stacks, then its nested assemblies by artifact id.
-use Rattle.std.specs.Prelude.{ℕ, zero, suc, List, [], ◌∷◌, ◌++◌, length, filter, find, Bool, true, false, not, Option, Some, None, unwrap_or, option_map, option_and_then, Result, Ok, Err, nat_le, if◌then◌else◌, bytes_eq, codes}
-use Rattle.std.specs.List.{list_all}
-use Rattle.serde_json.specs.Data.{Data, Items, no_items, item, Members, no_members, member}
-use Rattle.serde_json.specs.Find.{get, as_str, as_array}
+use Rattle.std.specs.Prelude.{ℕ, zero, suc, List, [], ◌∷◌, ◌++◌, length, Bool, true, false, Option, Some, None, Result, Ok, Err, nat_le, if◌then◌else◌, codes}
+use Rattle.serde_json.specs.Data.{Data}
 use Rattle.serde_json.specs.Read.{read}
 use Rattle.cdk_eval.specs.declared.role.Role.{Role}
 use Rattle.cdk_eval.specs.declared.role.Role.TheVariants.{ValuesFile, Template, Manifest}
-use Rattle.cdk_eval.specs.Reach.{is_among, comes_to}
-use Rattle.cdk_eval.specs.Sections.{section}
 use Rattle.cdk_eval.specs.Form.{first_miss}
 use Rattle.cdk_eval.specs.Manifest.{StackArtifact, artifacts, stacks_of, nested_directories, cyclic, in_order}
 use Rattle.cdk_eval.specs.Stack.{Stack}
