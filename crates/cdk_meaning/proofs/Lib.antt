@@ -1,0 +1,5 @@
+pub mod Collapse
+pub mod Joins
+pub mod Literals
+pub mod Kept
+pub mod InstanceLiterals
