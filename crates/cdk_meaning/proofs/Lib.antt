@@ -3,3 +3,8 @@ pub mod Joins
 pub mod Literals
 pub mod Kept
 pub mod InstanceLiterals
+pub mod NameLists
+pub mod Sections
+pub mod OneCondition
+pub mod ConditionChains
+pub mod Conditions

@@ -6,3 +6,9 @@ pub mod Meaning
 pub mod Agreement
 pub mod Literals
 pub mod Kept
+pub mod Names
+pub mod Truth
+pub mod Sections
+pub mod ConditionsKept
+pub mod Constructs
+pub mod StackTemplate

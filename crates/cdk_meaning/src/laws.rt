@@ -1,6 +1,8 @@
 // The laws between the meaning of plain expressions and the outcomes of templates.
 ghost use Rattle.cdk_meaning.specs.Literals.{LiteralsStand, LiteralsAreRendered};
 ghost use Rattle.cdk_meaning.specs.Kept.{RenderingKeepsMeaning};
+ghost use Rattle.cdk_meaning.specs.ConditionsKept.{ConditionsKeepTruth};
+ghost use Rattle.cdk_meaning.specs.Sections.{SectionsHold};
 
 /// In every template, under all values, the outcome of a literal is the literal: a text, a whole number of 64 bits, a truth
 /// value, or an array or object of these without an intrinsic's key.
@@ -17,4 +19,15 @@ pub fn literals_are_rendered()
 /// expression's meaning: for every form, with joins that are spliced and merged, and with parts that are gone.
 pub fn rendering_keeps_meaning()
     ensures { RenderingKeepsMeaning }
+{}
+
+/// In a section that is built of constructs with different names, each is found by its name and no other name is there.
+pub fn sections_hold()
+    ensures { SectionsHold }
+{}
+
+/// The conditions of a stack have in its template the truth that they mean, where they name no others and none reaches itself.
+/// From the number of these conditions on, it makes no difference how often names are opened.
+pub fn conditions_keep_truth()
+    ensures { ConditionsKeepTruth }
 {}

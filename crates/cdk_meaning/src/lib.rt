@@ -4,4 +4,4 @@
 
 mod laws;
 
-pub use laws::{literals_are_rendered, literals_stand, rendering_keeps_meaning};
+pub use laws::{conditions_keep_truth, literals_are_rendered, literals_stand, rendering_keeps_meaning, sections_hold};

@@ -1,0 +1,39 @@
+-- The conditions of a stack's template have the truth that they mean (own).
+use Rattle.std.specs.Prelude.{◌≡◌, ◌≤◌, ℕ, List, length, map, Bool, false, Option}
+use Rattle.serde_json.specs.Data.{Members}
+use Rattle.cdk_eval.specs.Template.{Scope, outcome}
+use Rattle.cdk_eval.specs.Conditions.{named_truth}
+use Rattle.cdk_meaning.specs.Plain.{Plain, Condition, IsWellCondition}
+use Rattle.cdk_meaning.specs.Mentions.{operand_mentions, names_in}
+use Rattle.cdk_meaning.specs.Source.{Source}
+use Rattle.cdk_meaning.specs.Meaning.{text_in, meaning}
+use Rattle.cdk_meaning.specs.Truth.{truth_within, reaches}
+use Rattle.cdk_meaning.specs.Agreement.{seen_truth}
+use Rattle.cdk_meaning.specs.Rendered.{Homes, rendered_condition}
+use Rattle.cdk_meaning.specs.Kept.{Keeps, PseudosKept}
+use Rattle.cdk_meaning.specs.Names.{AreDistinct, IsIn, Each}
+use Rattle.cdk_meaning.specs.Sections.{built}
+
+-- The section of these conditions.
+abbrev pub condition_section : Homes → (ℕ → Condition) → List ℕ → Members
+condition_section h conditions ns = built (λ c. h.condition c) (λ c. rendered_condition h (conditions c)) ns
+
+-- The text of an operand at the condition that holds it.
+abbrev pub operand_text : (ℕ → Source) → ℕ → Plain → Option (List ℕ)
+operand_text src c e = text_in (meaning (src c) e)
+
+-- The conditions have names of their own and name no others, they are well formed and what their operands mention stands in the
+-- template, and none reaches itself.
+pub record AreStackConditions (src : ℕ → Source) (h : Homes) (t : Scope) (conditions : ℕ → Condition) (ns : List ℕ) : Type 0 where
+  pub distinct : AreDistinct (map (λ c. h.condition c) ns)
+  pub closed : Each (λ c. Each (λ d. IsIn d ns) (names_in (conditions c))) ns
+  pub well : Each (λ c. IsWellCondition (conditions c)) ns
+  pub pseudos : Each (λ c. PseudosKept (src c) t) ns
+  pub kept : Each (λ c. Keeps (src c) h t (operand_mentions (conditions c))) ns
+  pub free : Each (λ c. reaches conditions (length ns) c c ≡ false) ns
+
+abbrev pub ConditionsKeepTruth : Type 0
+ConditionsKeepTruth =
+    (src : ℕ → Source) (h : Homes) (t : Scope) (conditions : ℕ → Condition) (ns : List ℕ) → AreStackConditions src h t conditions ns
+    → (n c : ℕ) → length ns ≤ n → IsIn c ns
+    → seen_truth (named_truth (outcome t) (condition_section h conditions ns) (h.condition c)) ≡ truth_within (operand_text src) conditions n c

@@ -1,0 +1,18 @@
+-- Lists of names and of constructs (own).
+use Rattle.std.specs.Prelude.{◌≡◌, ℕ, List, [], ◌∷◌, Bool, false, bytes_eq, ◌||◌, ◌⊎◌, ⊤}
+
+abbrev pub has_name : List ℕ → List (List ℕ) → Bool
+has_name e [] = false
+has_name e (n ∷ ns) = bytes_eq e n || has_name e ns
+
+abbrev pub AreDistinct : List (List ℕ) → Type 0
+AreDistinct [] = ⊤
+AreDistinct (n ∷ ns) = (has_name n ns ≡ false) × AreDistinct ns
+
+abbrev pub IsIn : {A : Type 0} → A → List A → Type 0
+IsIn a [] = ⊥
+IsIn a (b ∷ bs) = (b ≡ a) ⊎ IsIn a bs
+
+abbrev pub Each : {A : Type 0} → (A → Type 0) → List A → Type 0
+Each P [] = ⊤
+Each P (a ∷ as') = P a × Each P as'
