@@ -1,10 +1,10 @@
 -- Where no condition reaches itself, no more of them stand one inside another than there are.
-use Rattle.std.proofs.Common.{arith, ◌≡◌, ◌≤◌, ◌+◌, ℕ, zero, suc, List, [], ◌∷◌, length, Bool, true, false, ◌&&◌, ◌||◌, Option, Some, None, refl, sym, ap, ◌∙◌, subst, inl, inr, eq-eqb, eqb-true}
+use Rattle.std.proofs.Common.{arith, ◌≡◌, ◌≤◌, ◌+◌, ℕ, zero, suc, List, [], ◌∷◌, length, Bool, true, false, ◌&&◌, ◌||◌, Option, refl, sym, ap, ◌∙◌, subst, inl, inr, eq-eqb, eqb-true}
 use Rattle.std.specs.Prelude.{◌==◌, ◌⊎◌}
 use Rattle.std.specs.List.{list_any}
 use Rattle.cdk_meaning.specs.Plain.{Plain, Condition, equals, all_of, any_of, negation, named, Conditions, no_conditions, condition}
 use Rattle.cdk_meaning.specs.Mentions.{names_in, all_names_in}
-use Rattle.cdk_meaning.specs.Truth.{with_both, negated, condition_meaning, meaning_folded, truth_within, reaches}
+use Rattle.cdk_meaning.specs.Truth.{negated, condition_meaning, meaning_folded, truth_within, reaches}
 use Rattle.cdk_meaning.specs.Names.{IsIn, Each}
 use Rattle.cdk_meaning.proofs.NameLists.{or_right, or_cases, each_at, each_front, each_back, each_more}
 

@@ -1,13 +1,13 @@
 -- The conditions of a stack keep their truth.
-use Rattle.std.proofs.Common.{arith, ◌≡◌, ◌≤◌, ℕ, zero, suc, List, [], ◌∷◌, length, map, Bool, true, false, ◌||◌, Option, Some, None, refl, sym, ap, ◌∙◌, eq-eqb, eqb-true}
+use Rattle.std.proofs.Common.{arith, ◌≡◌, ℕ, zero, suc, List, [], ◌∷◌, length, map, Bool, true, false, ◌||◌, Some, refl, sym, ap, ◌∙◌, eq-eqb, eqb-true}
 use Rattle.std.specs.Prelude.{bytes_eq, if◌then◌else◌, ◌==◌}
 use Rattle.std.specs.List.{list_any}
-use Rattle.serde_json.specs.Data.{unsigned, Data, number, Members}
+use Rattle.serde_json.specs.Data.{unsigned, number, Members}
 use Rattle.serde_json.specs.Find.{get_member}
 use Rattle.cdk_eval.specs.declared.fault.EvalFault.TheVariants.{ConditionLoop}
 use Rattle.cdk_eval.specs.Outcomes.{Untold}
 use Rattle.cdk_eval.specs.Template.{Scope, outcome}
-use Rattle.cdk_eval.specs.Conditions.{truth_of, names_of, count, reaches as json_reaches, is_loop, found_truth, truth_within as json_truth_within, named_truth}
+use Rattle.cdk_eval.specs.Conditions.{truth_of, names_of, count, reaches as json_reaches, is_loop, found_truth, truth_within as json_truth_within}
 use Rattle.cdk_meaning.specs.Plain.{Condition, IsWellCondition}
 use Rattle.cdk_meaning.specs.Mentions.{operand_mentions, names_in}
 use Rattle.cdk_meaning.specs.Source.{Source}

@@ -1,10 +1,10 @@
 -- The meaning of each plain expression is kept.
-use Rattle.std.proofs.Common.{◌++◌, ◌≡◌, ℕ, List, [], ◌∷◌, Bool, true, false, Option, Some, None, refl, ap, ◌∙◌}
+use Rattle.std.proofs.Common.{◌≡◌, ℕ, List, Bool, true, false, Option, Some, None, refl, ap, ◌∙◌}
 use Rattle.std.specs.Prelude.{codes, if◌then◌else◌, ◌||◌}
 use Rattle.serde_json.specs.Data.{Num, Data, number, string}
 use Rattle.cdk_base.specs.Json.{is_whole}
 use Rattle.cdk_meaning.specs.Plain.{num_of, IsWell, AreWell, FieldsAreWell, Plain, text, whole, truth, list_of, object_of, pseudo, ref, get_att, concat, join, select, split, choice, find_in_map, import_value, Plains, no_plains, plain, Fields, no_fields, field}
-use Rattle.cdk_meaning.specs.Mentions.{Mention, mentions, all_mentions, field_mentions}
+use Rattle.cdk_meaning.specs.Mentions.{mentions, all_mentions, field_mentions}
 use Rattle.cdk_eval.specs.declared.fault.EvalFault.TheVariants.{NoExport, BadIntrinsic}
 use Rattle.cdk_eval.specs.Outcomes.{Value, Fault, text_or, picked, object_outcome}
 use Rattle.cdk_meaning.specs.Source.{Meaning, Means, Source}
@@ -12,8 +12,9 @@ use Rattle.cdk_meaning.specs.Meaning.{means_text, means_array, means_object, tex
 use Rattle.cdk_meaning.specs.Agreement.{seen, seen_truth}
 use Rattle.cdk_eval.specs.Template.{Scope, has_intrinsic_key, select_args, number_outcome, outcome, item_outcomes, member_outcomes, single_form}
 use Rattle.cdk_meaning.specs.Rendered.{Home, Local, Import, ImportList, Homes, list_delimiter, one, three, split_json, import_json, ref_json, attribute_json, rendered, rendered_items, rendered_fields}
-use Rattle.cdk_meaning.specs.Kept.{TargetKept, AttributeKept, Keeps, PseudosKept, RenderingKeepsMeaning}
+use Rattle.cdk_meaning.specs.Kept.{TargetKept, AttributeKept, MentionKept, Keeps, PseudosKept, RenderingKeepsMeaning}
 use Rattle.cdk_meaning.proofs.Collapse.{agrees_seen, listed, fielded, listed_first, fielded_first, seen_array, seen_object, seen_text, seen_select, seen_split, seen_choice, seen_leaf}
+use Rattle.cdk_meaning.proofs.NameLists.{each_front, each_back}
 use Rattle.cdk_meaning.proofs.Joins.{texts, seen_joined, seen_rendered_join}
 
 seen_number : (n : Num) → is_whole n ≡ true → seen (number_outcome n) ≡ Means (number n)
@@ -24,14 +25,6 @@ text_means None = refl
 text_means (Some t) = refl
 
 module _ (src : Source) (h : Homes) (t : Scope) (same : PseudosKept src t) where
-  pub front : (xs ys : List Mention) → Keeps src h t (xs ++ ys) → Keeps src h t xs
-  front [] ys k = tt
-  front (x ∷ xs) ys k = (k.0, front xs ys k.1)
-
-  pub back : (xs ys : List Mention) → Keeps src h t (xs ++ ys) → Keeps src h t ys
-  back [] ys k = k
-  back (x ∷ xs) ys k = back xs ys k.1
-
   import_kept : (e : List ℕ) → t.is_operand ≡ false → seen (outcome t (import_json e)) ≡ means_text (t.export e)
   import_kept e f = ap (λ b. seen (if b then Fault BadIntrinsic else text_or NoExport (t.export e))) f ∙ seen_text NoExport (t.export e)
 
@@ -72,21 +65,21 @@ module _ (src : Source) (h : Homes) (t : Scope) (same : PseudosKept src t) where
     kept (join d e) w k = seen_rendered_join t d (rendered h e) ∙ ap (λ v. joined_items d (items_in v)) (kept e w k)
     kept (select n e) w k = ap (λ b. seen (select_args (if b then Some n else None) (outcome t (rendered h e)))) w.0 ∙ seen_select n (outcome t (rendered h e)) ∙ ap (λ v. item_at n (items_in v)) (kept e w.1 k)
     kept (split d e) w k = seen_split d (outcome t (rendered h e)) w.0 ∙ ap (λ v. cut_at d (text_in v)) (kept e w.1 k)
-    kept (choice c x y) w k = choice_kept (h.condition c) (src.condition c) (rendered h x) (rendered h y) k.0 ∙ rw (kept x w.0 (front (mentions x) (mentions y) k.1), kept y w.1 (back (mentions x) (mentions y) k.1))
-    kept (find_in_map n x y) w k = seen_leaf (t.leaf (h.mapping n)) (src.leaf n) k.0 (outcome t (rendered h x)) (outcome t (rendered h y)) ∙ rw (kept x w.0 (front (mentions x) (mentions y) k.1), kept y w.1 (back (mentions x) (mentions y) k.1))
+    kept (choice c x y) w k = choice_kept (h.condition c) (src.condition c) (rendered h x) (rendered h y) k.0 ∙ rw (kept x w.0 (each_front (MentionKept src h t) (mentions x) (mentions y) k.1), kept y w.1 (each_back (MentionKept src h t) (mentions x) (mentions y) k.1))
+    kept (find_in_map n x y) w k = seen_leaf (t.leaf (h.mapping n)) (src.leaf n) k.0 (outcome t (rendered h x)) (outcome t (rendered h y)) ∙ rw (kept x w.0 (each_front (MentionKept src h t) (mentions x) (mentions y) k.1), kept y w.1 (each_back (MentionKept src h t) (mentions x) (mentions y) k.1))
     kept (import_value e) w k = import_kept e k.0.0 ∙ ap means_text k.0.1
 
     items_kept : (ps : Plains) → AreWell ps → Keeps src h t (all_mentions ps) → listed (item_outcomes t (rendered_items h ps)) ≡ meanings src ps
     items_kept no_plains w k = refl
-    items_kept (plain p ps) w k = listed_first (outcome t (rendered h p)) (item_outcomes t (rendered_items h ps)) ∙ (rw (kept p w.0 (front (mentions p) (all_mentions ps) k), items_kept ps w.1 (back (mentions p) (all_mentions ps) k)))
+    items_kept (plain p ps) w k = listed_first (outcome t (rendered h p)) (item_outcomes t (rendered_items h ps)) ∙ (rw (kept p w.0 (each_front (MentionKept src h t) (mentions p) (all_mentions ps) k), items_kept ps w.1 (each_back (MentionKept src h t) (mentions p) (all_mentions ps) k)))
 
     pieces_kept : (ps : Plains) → AreWell ps → Keeps src h t (all_mentions ps) → texts t (rendered_items h ps) ≡ pieces_text src ps
     pieces_kept no_plains w k = refl
-    pieces_kept (plain p ps) w k = rw (kept p w.0 (front (mentions p) (all_mentions ps) k), pieces_kept ps w.1 (back (mentions p) (all_mentions ps) k))
+    pieces_kept (plain p ps) w k = rw (kept p w.0 (each_front (MentionKept src h t) (mentions p) (all_mentions ps) k), pieces_kept ps w.1 (each_back (MentionKept src h t) (mentions p) (all_mentions ps) k))
 
     fields_kept : (fs : Fields) → FieldsAreWell fs → Keeps src h t (field_mentions fs) → fielded (member_outcomes t (rendered_fields h fs)) ≡ field_meanings src fs
     fields_kept no_fields w k = refl
-    fields_kept (field n p fs) w k = fielded_first n (outcome t (rendered h p)) (member_outcomes t (rendered_fields h fs)) ∙ (rw (kept p w.1 (front (mentions p) (field_mentions fs) k), fields_kept fs w.2 (back (mentions p) (field_mentions fs) k)))
+    fields_kept (field n p fs) w k = fielded_first n (outcome t (rendered h p)) (member_outcomes t (rendered_fields h fs)) ∙ (rw (kept p w.1 (each_front (MentionKept src h t) (mentions p) (field_mentions fs) k), fields_kept fs w.2 (each_back (MentionKept src h t) (mentions p) (field_mentions fs) k)))
 
 pub rendering_kept : RenderingKeepsMeaning
 rendering_kept src h t same e w k = agrees_seen (outcome t (rendered h e)) (meaning src e) (kept src h t same e w k)

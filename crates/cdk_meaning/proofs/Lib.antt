@@ -8,3 +8,6 @@ pub mod Sections
 pub mod OneCondition
 pub mod ConditionChains
 pub mod Conditions
+pub mod Pseudos
+pub mod Stack
+pub mod InstanceStack

@@ -1,12 +1,11 @@
 -- One condition keeps its truth, where the conditions that it names do.
 use Rattle.std.proofs.Common.{◌≡◌, ℕ, suc, List, [], ◌∷◌, ◌++◌, length, map, Bool, true, false, ◌&&◌, ◌||◌, Option, Some, None, refl, sym, ap, ◌∙◌, append-nil}
 use Rattle.std.specs.Prelude.{if◌then◌else◌}
-use Rattle.serde_json.specs.Data.{Data}
 use Rattle.cdk_base.specs.Json.{text_of}
 use Rattle.cdk_eval.specs.declared.fault.EvalFault.TheVariants.{BadIntrinsic}
 use Rattle.cdk_eval.specs.Outcomes.{Outcome, Value, Gone, Fault, Truth, Holds, Untold}
 use Rattle.cdk_eval.specs.Template.{Scope, outcome}
-use Rattle.cdk_eval.specs.Conditions.{equal_texts, equal_outcomes, both_hold, all_hold, is_few, few_form, negated as untrue, truth_of, item_truths, item_count, part_names, names_in as json_names, item_names}
+use Rattle.cdk_eval.specs.Conditions.{equal_texts, equal_outcomes, both_hold, all_hold, is_few, few_form, negated as untrue, truth_of, item_truths, item_count, names_in as json_names, item_names}
 use Rattle.cdk_meaning.specs.Plain.{Condition, equals, all_of, any_of, negation, named, Conditions, no_conditions, condition, condition_count, are_few, IsWellCondition, AreWellConditions}
 use Rattle.cdk_meaning.specs.Mentions.{mentions, operand_mentions, all_operand_mentions, names_in, all_names_in}
 use Rattle.cdk_meaning.specs.Source.{Source}
@@ -14,9 +13,9 @@ use Rattle.cdk_meaning.specs.Meaning.{text_in, meaning}
 use Rattle.cdk_meaning.specs.Truth.{same_texts, with_both, negated, condition_meaning, meaning_folded}
 use Rattle.cdk_meaning.specs.Agreement.{seen, seen_truth}
 use Rattle.cdk_meaning.specs.Rendered.{Homes, rendered, rendered_condition, rendered_conditions}
-use Rattle.cdk_meaning.specs.Kept.{Keeps, PseudosKept}
+use Rattle.cdk_meaning.specs.Kept.{MentionKept, Keeps, PseudosKept}
 use Rattle.cdk_meaning.specs.Names.{Each}
-use Rattle.cdk_meaning.proofs.Kept.{front, back, kept}
+use Rattle.cdk_meaning.proofs.Kept.{kept}
 use Rattle.cdk_meaning.proofs.NameLists.{each_front, each_back}
 
 seen_texts : (a b : Option (List ℕ)) → seen_truth (equal_texts a b) ≡ same_texts a b
@@ -61,7 +60,7 @@ module _ (src : Source) (h : Homes) (t : Scope) (same : PseudosKept src t) (name
   mutual
     pub truth_kept : (c : Condition) → IsWellCondition c → Keeps src h t (operand_mentions c) → Each NameKept (names_in c) → seen_truth (truth_of (outcome t) names (rendered_condition h c)) ≡ condition_meaning (λ e. text_in (meaning src e)) of_name c
     truth_kept (equals x y) w k m =
-        seen_equal (outcome t (rendered h x)) (outcome t (rendered h y)) ∙ rw (kept src h t same x w.0 (front src h t same (mentions x) (mentions y) k), kept src h t same y w.1 (back src h t same (mentions x) (mentions y) k))
+        seen_equal (outcome t (rendered h x)) (outcome t (rendered h y)) ∙ rw (kept src h t same x w.0 (each_front (MentionKept src h t) (mentions x) (mentions y) k), kept src h t same y w.1 (each_back (MentionKept src h t) (mentions x) (mentions y) k))
     truth_kept (all_of cs) w k m = ap seen_truth (few (λ a b. a && b) true cs w.0) ∙ truths_kept (λ a b. a && b) true cs w.1 k m
     truth_kept (any_of cs) w k m = ap seen_truth (few (λ a b. a || b) false cs w.0) ∙ truths_kept (λ a b. a || b) false cs w.1 k m
     truth_kept (negation c) w k m = seen_not (truth_of (outcome t) names (rendered_condition h c)) ∙ ap negated (truth_kept c w k m)
@@ -71,9 +70,9 @@ module _ (src : Source) (h : Homes) (t : Scope) (same : PseudosKept src t) (name
     truths_kept f b no_conditions w k m = refl
     truths_kept f b (condition c cs) w k m =
         seen_both f (truth_of (outcome t) names (rendered_condition h c)) (all_hold f b (item_truths (outcome t) names (rendered_conditions h cs)))
-        ∙ rw (truth_kept c w.0 (front src h t same (operand_mentions c) (all_operand_mentions cs) k) (each_front NameKept (names_in c) (all_names_in cs) m), truths_kept f b cs w.1 (back src h t same (operand_mentions c) (all_operand_mentions cs) k) (each_back NameKept (names_in c) (all_names_in cs) m))
+        ∙ rw (truth_kept c w.0 (each_front (MentionKept src h t) (operand_mentions c) (all_operand_mentions cs) k) (each_front NameKept (names_in c) (all_names_in cs) m), truths_kept f b cs w.1 (each_back (MentionKept src h t) (operand_mentions c) (all_operand_mentions cs) k) (each_back NameKept (names_in c) (all_names_in cs) m))
 
-map_append : (f : ℕ → List ℕ) (xs ys : List ℕ) → map f (xs ++ ys) ≡ map f xs ++ map f ys
+pub map_append : (f : ℕ → List ℕ) (xs ys : List ℕ) → map f (xs ++ ys) ≡ map f xs ++ map f ys
 map_append f [] ys = refl
 map_append f (x ∷ xs) ys = ap (λ l. f x ∷ l) (map_append f xs ys)
 

@@ -1,6 +1,6 @@
 -- Entries are found by their names.
 use Rattle.std.proofs.Common.{◌≡◌, ℕ, suc, List, [], ◌∷◌, length, map, true, false, Some, None, refl, ap, ◌∙◌, subst, inl, inr}
-use Rattle.std.specs.Prelude.{bytes_eq, ◌||◌}
+use Rattle.std.specs.Prelude.{bytes_eq}
 use Rattle.std.specs.Ordering.{nat_cmp, match_ordering, ordering_reverse}
 use Rattle.std.specs.Cmp.Lexicographic.{slice_cmp}
 use Rattle.std.specs.declared.cmp.Ordering.{Ordering}

@@ -1,5 +1,5 @@
 -- The conditions of a stack's template have the truth that they mean (own).
-use Rattle.std.specs.Prelude.{◌≡◌, ◌≤◌, ℕ, List, length, map, Bool, false, Option}
+use Rattle.std.specs.Prelude.{◌≡◌, ◌≤◌, ℕ, List, length, map, false, Option}
 use Rattle.serde_json.specs.Data.{Members}
 use Rattle.cdk_eval.specs.Template.{Scope, outcome}
 use Rattle.cdk_eval.specs.Conditions.{named_truth}

@@ -6,7 +6,7 @@ use Rattle.serde_json.specs.Data.{Data, string, array}
 use Rattle.serde_json.specs.Find.{get}
 use Rattle.cdk_eval.specs.Values.{Values, physical_text, attribute_text}
 use Rattle.cdk_eval.specs.Texts.{list_items}
-use Rattle.cdk_meaning.specs.Plain.{Pseudo, account_id, partition, region, stack_id, stack_name, url_suffix, no_value, Plain, Condition, named}
+use Rattle.cdk_meaning.specs.Plain.{Pseudo, account_id, partition, region, stack_id, stack_name, url_suffix, no_value, Condition, named}
 use Rattle.cdk_meaning.specs.Source.{Meaning, Means, Undefined, Source}
 use Rattle.cdk_meaning.specs.Meaning.{text_in, meaning}
 use Rattle.cdk_meaning.specs.Truth.{truth_within}
@@ -65,13 +65,13 @@ leaf_in _ x y = None
 -- At a condition's stack. In its operands stand no resources, conditions and imports.
 abbrev pub operand_source : Values → Constructs → List ℕ → Source
 operand_source v cs stack = record {
-    pseudo_text = pseudo_value v stack;
-    target = λ n. parameter_meaning v (cs.stack n) (cs.logical n) (cs.element n);
-    attribute = λ n a. Undefined;
-    condition = λ c. None;
-    leaf = λ m x y. leaf_in (cs.element m) x y;
-    outside = λ e. None
-  }
+  pseudo_text = pseudo_value v stack;
+  target = λ n. parameter_meaning v (cs.stack n) (cs.logical n) (cs.element n);
+  attribute = λ n a. Undefined;
+  condition = λ c. None;
+  leaf = λ m x y. leaf_in (cs.element m) x y;
+  outside = λ e. None;
+}
 
 -- What is no condition names itself, and so has no truth.
 abbrev pub condition_in : ℕ → Element → Condition
@@ -114,10 +114,10 @@ attribute_meaning v truth_at stack logical a _ = Undefined
 
 abbrev pub source_of : Values → Constructs → ℕ → List ℕ → Source
 source_of v cs most stack = record {
-    pseudo_text = pseudo_value v stack;
-    target = λ n. target_meaning v (truth v cs most) (cs.stack n) (cs.logical n) (cs.element n);
-    attribute = λ n a. attribute_meaning v (truth v cs most) (cs.stack n) (cs.logical n) a (cs.element n);
-    condition = λ c. truth v cs most c;
-    leaf = λ m x y. leaf_in (cs.element m) x y;
-    outside = v.export
-  }
+  pseudo_text = pseudo_value v stack;
+  target = λ n. target_meaning v (truth v cs most) (cs.stack n) (cs.logical n) (cs.element n);
+  attribute = λ n a. attribute_meaning v (truth v cs most) (cs.stack n) (cs.logical n) a (cs.element n);
+  condition = λ c. truth v cs most c;
+  leaf = λ m x y. leaf_in (cs.element m) x y;
+  outside = v.export;
+}

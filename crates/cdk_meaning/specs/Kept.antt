@@ -1,11 +1,12 @@
 -- Rendering keeps meaning: what a rendered expression comes to is what the expression means (own).
-use Rattle.std.specs.Prelude.{◌≡◌, ℕ, List, [], ◌∷◌, false, ⊤}
+use Rattle.std.specs.Prelude.{◌≡◌, ℕ, List, false}
 use Rattle.cdk_meaning.specs.Plain.{Pseudo, pseudo_name, Plain, IsWell}
 use Rattle.cdk_meaning.specs.Mentions.{Mention, to_target, to_attribute, to_condition, to_mapping, to_import, mentions}
 use Rattle.cdk_meaning.specs.Source.{Meaning, Source}
 use Rattle.cdk_meaning.specs.Meaning.{or_undefined, means_text, cut_at, pseudo_meaning, meaning}
 use Rattle.cdk_meaning.specs.Agreement.{Agrees, seen, seen_truth}
 use Rattle.cdk_eval.specs.Template.{Scope, ref_outcome, outcome}
+use Rattle.cdk_meaning.specs.Names.{Each}
 use Rattle.cdk_meaning.specs.Rendered.{Home, Local, Import, ImportList, Homes, list_delimiter, rendered}
 
 -- A target's spelling comes to what the target means: by its name, or by an export's text, whole or cut.
@@ -30,8 +31,7 @@ MentionKept src h t (to_import e) = (t.is_operand ≡ false) × (t.export e ≡ 
 
 -- All that the list mentions.
 abbrev pub Keeps : Source → Homes → Scope → List Mention → Type 0
-Keeps src h t [] = ⊤
-Keeps src h t (x ∷ xs) = MentionKept src h t x × Keeps src h t xs
+Keeps src h t xs = Each (MentionKept src h t) xs
 
 abbrev pub PseudosKept : Source → Scope → Type 0
 PseudosKept src t = (p : Pseudo) → seen (ref_outcome t (pseudo_name p)) ≡ pseudo_meaning src p

@@ -1,8 +1,8 @@
 -- When a template is built of a stack's constructs, and that its names then stand for what they mean (CloudFormation's template
 -- anatomy).
-use Rattle.std.specs.Prelude.{◌≡◌, ◌≤◌, ℕ, List, [], ◌++◌, length, map, Bool, true, false, ◌==◌, Option, Some, None, option_map, is_some, codes, ⊤}
+use Rattle.std.specs.Prelude.{◌≡◌, ◌≤◌, ℕ, List, ◌++◌, length, map, Bool, true, false, ◌==◌, Option, Some, None, option_map, is_some, codes, ⊤}
 use Rattle.std.specs.List.{list_any}
-use Rattle.serde_json.specs.Data.{Data, null, boolean, number, string, array, object, Items, Members, no_members, member}
+use Rattle.serde_json.specs.Data.{Data, string, object, Members, no_members, member}
 use Rattle.serde_json.specs.Find.{get}
 use Rattle.cdk_base.specs.Json.{text_of}
 use Rattle.cdk_eval.specs.Values.{Values}
@@ -17,7 +17,7 @@ use Rattle.cdk_meaning.specs.Agreement.{Agrees}
 use Rattle.cdk_meaning.specs.Rendered.{Home, Local, Import, ImportList, Homes, list_delimiter, rendered, rendered_condition}
 use Rattle.cdk_meaning.specs.Names.{AreDistinct, IsIn, Each}
 use Rattle.cdk_meaning.specs.Sections.{built}
-use Rattle.cdk_meaning.specs.Constructs.{ParameterForm, text_form, number_form, list_form, Element, parameter_of, resource_of, condition_of, mapping_of, Constructs, condition_at, source_of}
+use Rattle.cdk_meaning.specs.Constructs.{ParameterForm, text_form, number_form, list_form, Element, parameter_of, resource_of, mapping_of, Constructs, condition_at, source_of}
 
 -- The constructs of one stack that names of its template stand for.
 pub record Parts : Type 0 where
@@ -46,21 +46,20 @@ abbrev pub IsResourceEntry : (ℕ → List ℕ) → List ℕ → Element → Dat
 IsResourceEntry logical conditions (resource_of guard) e = (get (codes "Condition") e ≡ option_map (λ c. string (logical c)) guard) × IsGuardIn conditions guard
 IsResourceEntry logical conditions _ e = ⊥
 
--- a mapping's leaves are texts, whole numbers and truth values
-abbrev pub AreLeaves : Members → Type 0
-AreLeaves no_members = ⊤
-AreLeaves (member k d ms) = (is_some (text_of d) ≡ true) × AreLeaves ms
+abbrev pub EachMember : (Data → Type 0) → Members → Type 0
+EachMember P no_members = ⊤
+EachMember P (member k d ms) = P d × EachMember P ms
+
+-- a text, a whole number or a truth value
+abbrev pub IsLeaf : Data → Type 0
+IsLeaf d = is_some (text_of d) ≡ true
 
 abbrev pub IsRow : Data → Type 0
-IsRow (object ms) = AreLeaves ms
+IsRow (object ms) = EachMember IsLeaf ms
 IsRow _ = ⊥
 
-abbrev pub AreRows : Members → Type 0
-AreRows no_members = ⊤
-AreRows (member k d ms) = IsRow d × AreRows ms
-
 abbrev pub IsMapping : Data → Type 0
-IsMapping (object ms) = AreRows ms
+IsMapping (object ms) = EachMember IsRow ms
 IsMapping _ = ⊥
 
 abbrev pub IsMappingEntry : Element → Data → Type 0

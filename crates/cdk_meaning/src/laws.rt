@@ -3,6 +3,7 @@ ghost use Rattle.cdk_meaning.specs.Literals.{LiteralsStand, LiteralsAreRendered}
 ghost use Rattle.cdk_meaning.specs.Kept.{RenderingKeepsMeaning};
 ghost use Rattle.cdk_meaning.specs.ConditionsKept.{ConditionsKeepTruth};
 ghost use Rattle.cdk_meaning.specs.Sections.{SectionsHold};
+ghost use Rattle.cdk_meaning.specs.StackTemplate.{StacksKeepMeaning};
 
 /// In every template, under all values, the outcome of a literal is the literal: a text, a whole number of 64 bits, a truth
 /// value, or an array or object of these without an intrinsic's key.
@@ -30,4 +31,11 @@ pub fn sections_hold()
 /// From the number of these conditions on, it makes no difference how often names are opened.
 pub fn conditions_keep_truth()
     ensures { ConditionsKeepTruth }
+{}
+
+/// In a template that is built of a stack's constructs, under all values and exports, the outcome of a rendered expression
+/// agrees with the expression's meaning: its parameters, resources, conditions and mappings are found by their logical names,
+/// and what it imports is there.
+pub fn stacks_keep_meaning()
+    ensures { StacksKeepMeaning }
 {}

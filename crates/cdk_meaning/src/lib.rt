@@ -4,4 +4,7 @@
 
 mod laws;
 
-pub use laws::{conditions_keep_truth, literals_are_rendered, literals_stand, rendering_keeps_meaning, sections_hold};
+pub use laws::{
+    conditions_keep_truth, literals_are_rendered, literals_stand, rendering_keeps_meaning,
+    sections_hold, stacks_keep_meaning,
+};
