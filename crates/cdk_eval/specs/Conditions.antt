@@ -1,10 +1,10 @@
 -- What a condition of a template comes to (CloudFormation's condition functions; loops and faults are own).
-use Rattle.std.specs.Prelude.{ℕ, zero, suc, ◌&&◌, ◌||◌, List, [], ◌∷◌, ◌++◌, length, Bool, true, false, not, Option, Some, None, nat_le, if◌then◌else◌, bytes_eq, codes}
-use Rattle.std.specs.List.{list_any}
+use Rattle.std.specs.Prelude.{◌≡◌, ◌≤◌, ℕ, zero, suc, ◌&&◌, ◌||◌, List, [], ◌∷◌, ◌++◌, length, Bool, true, false, not, Option, Some, None, nat_le, if◌then◌else◌, bytes_eq, codes}
 use Rattle.serde_json.specs.Data.{Data, null, boolean, number, string, array, object, Items, no_items, item, Members, no_members, member}
 use Rattle.serde_json.specs.Find.{get_member}
 use Rattle.cdk_base.specs.Json.{text_of}
 use Rattle.cdk_eval.specs.declared.fault.EvalFault.TheVariants.{NotText, UnknownName, BadIntrinsic, ConditionLoop}
+use Rattle.cdk_eval.specs.Reach.{comes_to}
 use Rattle.cdk_eval.specs.Outcomes.{Outcome, Value, Gone, Fault, Truth, Holds, Untold}
 
 -- ---- one condition
@@ -120,9 +120,9 @@ abbrev mutual
   pub single_names : Members → List (List ℕ)
   single_names no_members = []
   single_names (member k d no_members) =
-      if bytes_eq k (codes "Condition") then one_name d
-      else (if bytes_eq k (codes "Fn::And") || bytes_eq k (codes "Fn::Or") then (if has_items is_few d then part_names d else [])
+      if bytes_eq k (codes "Fn::And") || bytes_eq k (codes "Fn::Or") then (if has_items is_few d then part_names d else [])
       else (if bytes_eq k (codes "Fn::Not") then (if has_items is_one d then part_names d else [])
+      else (if bytes_eq k (codes "Condition") then one_name d
       else []))
   single_names (member k d (member l e ms)) = []
 
@@ -150,8 +150,7 @@ count (member k d ms) = suc (count ms)
 
 -- from the condition `c` one comes to `goal` by at most so many steps, each from a condition to one that it names
 abbrev pub reaches : Members → ℕ → List ℕ → List ℕ → Bool
-reaches cs zero goal c = false
-reaches cs (suc n) goal c = list_any (λ d. bytes_eq d goal || reaches cs n goal d) (names_of (get_member c cs))
+reaches cs = comes_to (λ c. names_of (get_member c cs))
 
 -- it comes back to itself; no such way needs more steps than there are conditions
 abbrev pub is_loop : Members → List ℕ → Bool
@@ -169,3 +168,15 @@ truth_within operand cs (suc n) c = found_truth (λ d. if is_loop cs c then Unto
 -- No more conditions than there are stand one inside another, unless one reaches itself.
 abbrev pub named_truth : (Data → Outcome) → Members → List ℕ → Truth
 named_truth operand cs c = truth_within operand cs (count cs) c
+
+-- ---- laws
+
+-- more openings change nothing
+abbrev pub BoundSuffices : Type 0
+BoundSuffices = (operand : Data → Outcome) (cs : Members) (n : ℕ) (c : List ℕ) → count cs ≤ n → truth_within operand cs n c ≡ named_truth operand cs c
+
+-- a condition that doesn't reach itself has the truth of its form, under the truths of the names in it
+abbrev pub NamesAreOpened : Type 0
+NamesAreOpened =
+    (operand : Data → Outcome) (cs : Members) (c : List ℕ) (d : Data)
+    → get_member c cs ≡ Some d → is_loop cs c ≡ false → named_truth operand cs c ≡ truth_of operand (named_truth operand cs) d

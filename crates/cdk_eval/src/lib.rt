@@ -3,5 +3,9 @@
 #![tactic(auto)]
 
 mod fault;
+mod laws;
+mod role;
 
 pub use fault::EvalFault;
+pub use laws::{condition_bound_suffices, condition_names_are_opened};
+pub use role::Role;

@@ -4,7 +4,7 @@ use Rattle.serde_json.proofs.Texts.{tokens_from_order}
 use Rattle.json.specs.Layout.{pretty}
 use Rattle.serde_json.specs.View.{view}
 use Rattle.cdk_base.proofs.Laid.{pretty-outline}
-use Rattle.cdk_base.proofs.json.pretty_bytes.Goals as goal
+use Rattle.cdk_base.proofs.value_text.pretty_bytes.Goals as goal
 
 -- what holds of a value by two facts of it
 from_both : {T E : Type 0} (r : Result T E) (P Q R : T → Type 0) → ((x : T) → P x → Q x → R x) → IfOk r P → IfOk r Q → IfOk r R

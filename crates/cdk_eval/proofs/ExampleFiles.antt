@@ -1,0 +1,230 @@
+-- Worked readings of files: the first that misses its form, and where. By computation.
+use Rattle.std.proofs.Common.{refl}
+use Rattle.std.specs.Fmt.{digits}
+use Rattle.serde_json.proofs.OnLiterals.{serde_json_on_literals}
+use Rattle.std.specs.Prelude.{[], ◌∷◌}
+use Rattle.cdk_eval.proofs.Shown.{Reports}
+
+-- A manifest that is no JSON.
+manifest_cut_short : Reports
+    (("out/manifest.json", "{") ∷ [])
+    "{}"
+    "AsmNotJson out/manifest.json "
+unfolding serde_json_on_literals digits
+manifest_cut_short = refl
+
+-- A missing member is told of its object.
+manifest_without_artifacts : Reports
+    (("out/manifest.json", "{}") ∷ [])
+    "{}"
+    "AsmShape out/manifest.json "
+unfolding serde_json_on_literals digits
+manifest_without_artifacts = refl
+
+-- A cycle by dependencies: its least artifact id.
+manifest_with_a_cycle : Reports
+    (("out/manifest.json", "{\"artifacts\":{\"A\":{\"type\":\"aws:cloudformation:stack\",\"properties\":{\"templateFile\":\"A.template.json\"},\"dependencies\":[\"B\"]},\"B\":{\"type\":\"aws:cloudformation:stack\",\"properties\":{\"templateFile\":\"B.template.json\"},\"dependencies\":[\"C\",\"A\"]},\"C\":{\"type\":\"aws:cloudformation:stack\",\"properties\":{\"templateFile\":\"C.template.json\"},\"dependencies\":[\"A\",\"X\"]},\"D\":{\"type\":\"aws:cloudformation:stack\",\"properties\":{\"templateFile\":\"D.template.json\"},\"dependencies\":[\"A\"]}},\"version\":\"36.0.0\"}") ∷ [])
+    "{}"
+    "AsmCycle out/manifest.json A"
+unfolding serde_json_on_literals digits
+manifest_with_a_cycle = refl
+
+-- What only leads to a cycle doesn't reach itself.
+stack_on_itself : Reports
+    (("out/manifest.json", "{\"artifacts\":{\"A\":{\"type\":\"aws:cloudformation:stack\",\"properties\":{\"templateFile\":\"A.template.json\"},\"dependencies\":[\"B\"]},\"B\":{\"type\":\"aws:cloudformation:stack\",\"properties\":{\"templateFile\":\"B.template.json\"},\"dependencies\":[\"B\"]}},\"version\":\"36.0.0\"}") ∷ [])
+    "{}"
+    "AsmCycle out/manifest.json B"
+unfolding serde_json_on_literals digits
+stack_on_itself = refl
+
+-- A file name with a `/`, told before the cycle.
+file_name_with_a_step : Reports
+    (("out/manifest.json", "{\"artifacts\":{\"A\":{\"type\":\"aws:cloudformation:stack\",\"properties\":{\"templateFile\":\"A.template.json\"},\"dependencies\":[\"A\"]},\"S\":{\"type\":\"aws:cloudformation:stack\",\"properties\":{\"templateFile\":\"../x\"}}},\"version\":\"36.0.0\"}") ∷ [])
+    "{}"
+    "AsmShape out/manifest.json /artifacts/S/properties/templateFile"
+unfolding serde_json_on_literals digits
+file_name_with_a_step = refl
+
+-- An artifact of no type is no stack.
+wrong_type : Reports
+    (("out/manifest.json", "{\"artifacts\":{\"A\":{\"type\":1,\"properties\":2}},\"version\":\"36.0.0\"}") ∷ [])
+    "{}"
+    "AsmShape out/manifest.json /artifacts/A/type"
+unfolding serde_json_on_literals digits
+wrong_type = refl
+
+-- A stack without properties.
+stack_without_properties : Reports
+    (("out/manifest.json", "{\"artifacts\":{\"A\":{\"type\":\"aws:cloudformation:stack\"}},\"version\":\"36.0.0\"}") ∷ [])
+    "{}"
+    "AsmShape out/manifest.json /artifacts/A"
+unfolding serde_json_on_literals digits
+stack_without_properties = refl
+
+-- A missing member stands before a wrong one in the same object.
+stack_without_file : Reports
+    (("out/manifest.json", "{\"artifacts\":{\"A\":{\"type\":\"aws:cloudformation:stack\",\"properties\":{\"stackName\":1}}},\"version\":\"36.0.0\"}") ∷ [])
+    "{}"
+    "AsmShape out/manifest.json /artifacts/A/properties"
+unfolding serde_json_on_literals digits
+stack_without_file = refl
+
+-- A wrong item of a list is told at itself.
+wrong_dependency : Reports
+    (("out/manifest.json", "{\"artifacts\":{\"A\":{\"type\":\"aws:cloudformation:stack\",\"properties\":{\"templateFile\":\"A.template.json\"},\"dependencies\":[\"B\",1]}},\"version\":\"36.0.0\"}") ∷ [])
+    "{}"
+    "AsmShape out/manifest.json /artifacts/A/dependencies/1"
+unfolding serde_json_on_literals digits
+wrong_dependency = refl
+
+-- Keys are escaped in pointers.
+escaped_pointer : Reports
+    (("out/manifest.json", "{\"artifacts\":{\"~/\":{\"type\":\"aws:cloudformation:stack\",\"properties\":{\"templateFile\":\"A.template.json\"},\"dependencies\":1}},\"version\":\"36.0.0\"}") ∷ [])
+    "{}"
+    "AsmShape out/manifest.json /artifacts/~0~1/dependencies"
+unfolding serde_json_on_literals digits
+escaped_pointer = refl
+
+-- A directory above.
+directory_above : Reports
+    (("out/manifest.json", "{\"artifacts\":{\"A\":{\"type\":\"cdk:cloud-assembly\",\"properties\":{\"directoryName\":\"..\"}}},\"version\":\"36.0.0\"}") ∷ [])
+    "{}"
+    "AsmShape out/manifest.json /artifacts/A/properties/directoryName"
+unfolding serde_json_on_literals digits
+directory_above = refl
+
+-- A file that isn't there.
+missing_template : Reports
+    (("out/manifest.json", "{\"artifacts\":{\"S\":{\"type\":\"aws:cloudformation:stack\",\"properties\":{\"templateFile\":\"S.template.json\"}}},\"version\":\"36.0.0\"}") ∷ [])
+    "{}"
+    "absent out/S.template.json"
+unfolding serde_json_on_literals digits
+missing_template = refl
+
+-- A wrong member of a template.
+wrong_member_of_a_template : Reports
+    (("out/manifest.json", "{\"artifacts\":{\"S\":{\"type\":\"aws:cloudformation:stack\",\"properties\":{\"templateFile\":\"S.template.json\"}}},\"version\":\"36.0.0\"}") ∷ ("out/S.template.json", "{\"Outputs\":{\"O\":{\"Value\":1}},\"Resources\":{\"R\":{\"Properties\":[],\"Type\":1}}}") ∷ [])
+    "{}"
+    "AsmShape out/S.template.json /Resources/R/Properties"
+unfolding serde_json_on_literals digits
+wrong_member_of_a_template = refl
+
+-- A null is no object; an export needs a name.
+null_in_a_template : Reports
+    (("out/manifest.json", "{\"artifacts\":{\"S\":{\"type\":\"aws:cloudformation:stack\",\"properties\":{\"templateFile\":\"S.template.json\"}}},\"version\":\"36.0.0\"}") ∷ ("out/S.template.json", "{\"Conditions\":null,\"Outputs\":{\"O\":{\"Export\":{}}}}") ∷ [])
+    "{}"
+    "AsmShape out/S.template.json /Conditions"
+unfolding serde_json_on_literals digits
+null_in_a_template = refl
+
+-- A missing value of an output.
+output_without_value : Reports
+    (("out/manifest.json", "{\"artifacts\":{\"S\":{\"type\":\"aws:cloudformation:stack\",\"properties\":{\"templateFile\":\"S.template.json\"}}},\"version\":\"36.0.0\"}") ∷ ("out/S.template.json", "{\"Outputs\":{\"O\":{\"Export\":{}}}}") ∷ [])
+    "{}"
+    "AsmShape out/S.template.json /Outputs/O"
+unfolding serde_json_on_literals digits
+output_without_value = refl
+
+-- A missing name of an export.
+export_without_name : Reports
+    (("out/manifest.json", "{\"artifacts\":{\"S\":{\"type\":\"aws:cloudformation:stack\",\"properties\":{\"templateFile\":\"S.template.json\"}}},\"version\":\"36.0.0\"}") ∷ ("out/S.template.json", "{\"Outputs\":{\"O\":{\"Export\":{},\"Value\":null}}}") ∷ [])
+    "{}"
+    "AsmShape out/S.template.json /Outputs/O/Export"
+unfolding serde_json_on_literals digits
+export_without_name = refl
+
+-- A default that is no whole number.
+default_is_half : Reports
+    (("out/manifest.json", "{\"artifacts\":{\"S\":{\"type\":\"aws:cloudformation:stack\",\"properties\":{\"templateFile\":\"S.template.json\"}}},\"version\":\"36.0.0\"}") ∷ ("out/S.template.json", "{\"Parameters\":{\"P\":{\"Default\":1.5,\"Type\":\"\"}}}") ∷ [])
+    "{}"
+    "AsmShape out/S.template.json /Parameters/P/Default"
+unfolding serde_json_on_literals digits
+default_is_half = refl
+
+-- An entry of a mapping is an object.
+mapping_of_a_text : Reports
+    (("out/manifest.json", "{\"artifacts\":{\"S\":{\"type\":\"aws:cloudformation:stack\",\"properties\":{\"templateFile\":\"S.template.json\"}}},\"version\":\"36.0.0\"}") ∷ ("out/S.template.json", "{\"Mappings\":{\"M\":{\"x\":\"y\"}}}") ∷ [])
+    "{}"
+    "AsmShape out/S.template.json /Mappings/M/x"
+unfolding serde_json_on_literals digits
+mapping_of_a_text = refl
+
+-- Own templates are read before nested assemblies.
+first_file_decides : Reports
+    (("out/manifest.json", "{\"artifacts\":{\"A\":{\"type\":\"cdk:cloud-assembly\",\"properties\":{\"directoryName\":\"n\"}},\"B\":{\"type\":\"aws:cloudformation:stack\",\"properties\":{\"templateFile\":\"B.template.json\"}}},\"version\":\"36.0.0\"}") ∷ ("out/n/manifest.json", "[") ∷ ("out/B.template.json", "[]") ∷ [])
+    "{}"
+    "AsmShape out/B.template.json "
+unfolding serde_json_on_literals digits
+first_file_decides = refl
+
+-- The eleventh level is refused in the manifest of the tenth.
+eleven_levels : Reports
+    (("out/manifest.json", "{\"artifacts\":{\"A\":{\"type\":\"cdk:cloud-assembly\",\"properties\":{\"directoryName\":\"n\"}}},\"version\":\"36.0.0\"}") ∷ ("out/n/manifest.json", "{\"artifacts\":{\"A\":{\"type\":\"cdk:cloud-assembly\",\"properties\":{\"directoryName\":\"n\"}}},\"version\":\"36.0.0\"}") ∷ ("out/n/n/manifest.json", "{\"artifacts\":{\"A\":{\"type\":\"cdk:cloud-assembly\",\"properties\":{\"directoryName\":\"n\"}}},\"version\":\"36.0.0\"}") ∷ ("out/n/n/n/manifest.json", "{\"artifacts\":{\"A\":{\"type\":\"cdk:cloud-assembly\",\"properties\":{\"directoryName\":\"n\"}}},\"version\":\"36.0.0\"}") ∷ ("out/n/n/n/n/manifest.json", "{\"artifacts\":{\"A\":{\"type\":\"cdk:cloud-assembly\",\"properties\":{\"directoryName\":\"n\"}}},\"version\":\"36.0.0\"}") ∷ ("out/n/n/n/n/n/manifest.json", "{\"artifacts\":{\"A\":{\"type\":\"cdk:cloud-assembly\",\"properties\":{\"directoryName\":\"n\"}}},\"version\":\"36.0.0\"}") ∷ ("out/n/n/n/n/n/n/manifest.json", "{\"artifacts\":{\"A\":{\"type\":\"cdk:cloud-assembly\",\"properties\":{\"directoryName\":\"n\"}}},\"version\":\"36.0.0\"}") ∷ ("out/n/n/n/n/n/n/n/manifest.json", "{\"artifacts\":{\"A\":{\"type\":\"cdk:cloud-assembly\",\"properties\":{\"directoryName\":\"n\"}}},\"version\":\"36.0.0\"}") ∷ ("out/n/n/n/n/n/n/n/n/manifest.json", "{\"artifacts\":{\"A\":{\"type\":\"cdk:cloud-assembly\",\"properties\":{\"directoryName\":\"n\"}}},\"version\":\"36.0.0\"}") ∷ ("out/n/n/n/n/n/n/n/n/n/manifest.json", "{\"artifacts\":{\"A\":{\"type\":\"cdk:cloud-assembly\",\"properties\":{\"directoryName\":\"n\"}}},\"version\":\"36.0.0\"}") ∷ ("out/n/n/n/n/n/n/n/n/n/n/manifest.json", "{\"artifacts\":{\"A\":{\"type\":\"cdk:cloud-assembly\",\"properties\":{\"directoryName\":\"n\"}}},\"version\":\"36.0.0\"}") ∷ [])
+    "{}"
+    "AsmShape out/n/n/n/n/n/n/n/n/n/n/manifest.json /artifacts/A/properties/directoryName"
+unfolding serde_json_on_literals digits
+eleven_levels = refl
+
+-- Ten levels are read.
+ten_levels : Reports
+    (("out/manifest.json", "{\"artifacts\":{\"A\":{\"type\":\"cdk:cloud-assembly\",\"properties\":{\"directoryName\":\"n\"}}},\"version\":\"36.0.0\"}") ∷ ("out/n/manifest.json", "{\"artifacts\":{\"A\":{\"type\":\"cdk:cloud-assembly\",\"properties\":{\"directoryName\":\"n\"}}},\"version\":\"36.0.0\"}") ∷ ("out/n/n/manifest.json", "{\"artifacts\":{\"A\":{\"type\":\"cdk:cloud-assembly\",\"properties\":{\"directoryName\":\"n\"}}},\"version\":\"36.0.0\"}") ∷ ("out/n/n/n/manifest.json", "{\"artifacts\":{\"A\":{\"type\":\"cdk:cloud-assembly\",\"properties\":{\"directoryName\":\"n\"}}},\"version\":\"36.0.0\"}") ∷ ("out/n/n/n/n/manifest.json", "{\"artifacts\":{\"A\":{\"type\":\"cdk:cloud-assembly\",\"properties\":{\"directoryName\":\"n\"}}},\"version\":\"36.0.0\"}") ∷ ("out/n/n/n/n/n/manifest.json", "{\"artifacts\":{\"A\":{\"type\":\"cdk:cloud-assembly\",\"properties\":{\"directoryName\":\"n\"}}},\"version\":\"36.0.0\"}") ∷ ("out/n/n/n/n/n/n/manifest.json", "{\"artifacts\":{\"A\":{\"type\":\"cdk:cloud-assembly\",\"properties\":{\"directoryName\":\"n\"}}},\"version\":\"36.0.0\"}") ∷ ("out/n/n/n/n/n/n/n/manifest.json", "{\"artifacts\":{\"A\":{\"type\":\"cdk:cloud-assembly\",\"properties\":{\"directoryName\":\"n\"}}},\"version\":\"36.0.0\"}") ∷ ("out/n/n/n/n/n/n/n/n/manifest.json", "{\"artifacts\":{\"A\":{\"type\":\"cdk:cloud-assembly\",\"properties\":{\"directoryName\":\"n\"}}},\"version\":\"36.0.0\"}") ∷ ("out/n/n/n/n/n/n/n/n/n/manifest.json", "{\"artifacts\":{\"A\":{\"type\":\"cdk:cloud-assembly\",\"properties\":{\"directoryName\":\"n\"}}},\"version\":\"36.0.0\"}") ∷ ("out/n/n/n/n/n/n/n/n/n/n/manifest.json", "{\"artifacts\":{\"S\":{\"type\":\"aws:cloudformation:stack\",\"properties\":{\"templateFile\":\"S.template.json\"}}},\"version\":\"36.0.0\"}") ∷ ("out/n/n/n/n/n/n/n/n/n/n/S.template.json", "{\"Resources\":{\"R\":{\"Type\":\"T\"}}}") ∷ [])
+    "{}"
+    "stack S\nresource R\n"
+unfolding serde_json_on_literals digits
+ten_levels = refl
+
+-- Values that are no JSON.
+values_cut_short : Reports
+    (("out/manifest.json", "{\"artifacts\":{\"S\":{\"type\":\"aws:cloudformation:stack\",\"properties\":{\"templateFile\":\"S.template.json\"}}},\"version\":\"36.0.0\"}") ∷ ("out/S.template.json", "{}") ∷ [])
+    "{"
+    "ValuesNotJson "
+unfolding serde_json_on_literals digits
+values_cut_short = refl
+
+-- Values that are no object.
+values_are_a_list : Reports
+    (("out/manifest.json", "{\"artifacts\":{\"S\":{\"type\":\"aws:cloudformation:stack\",\"properties\":{\"templateFile\":\"S.template.json\"}}},\"version\":\"36.0.0\"}") ∷ ("out/S.template.json", "{}") ∷ [])
+    "[]"
+    "ValuesShape "
+unfolding serde_json_on_literals digits
+values_are_a_list = refl
+
+-- An unknown member.
+unknown_member : Reports
+    (("out/manifest.json", "{\"artifacts\":{\"S\":{\"type\":\"aws:cloudformation:stack\",\"properties\":{\"templateFile\":\"S.template.json\"}}},\"version\":\"36.0.0\"}") ∷ ("out/S.template.json", "{}") ∷ [])
+    "{\"physical\":{},\"zone\":1}"
+    "ValuesShape /zone"
+unfolding serde_json_on_literals digits
+unknown_member = refl
+
+-- A misspelt member of a resource.
+unknown_physical_member : Reports
+    (("out/manifest.json", "{\"artifacts\":{\"S\":{\"type\":\"aws:cloudformation:stack\",\"properties\":{\"templateFile\":\"S.template.json\"}}},\"version\":\"36.0.0\"}") ∷ ("out/S.template.json", "{}") ∷ [])
+    "{\"physical\":{\"S\":{\"R\":{\"Getatt\":{}}}}}"
+    "ValuesShape /physical/S/R/Getatt"
+unfolding serde_json_on_literals digits
+unknown_physical_member = refl
+
+-- A pseudo parameter that has no value from outside.
+stack_name_as_pseudo : Reports
+    (("out/manifest.json", "{\"artifacts\":{\"S\":{\"type\":\"aws:cloudformation:stack\",\"properties\":{\"templateFile\":\"S.template.json\"}}},\"version\":\"36.0.0\"}") ∷ ("out/S.template.json", "{}") ∷ [])
+    "{\"pseudo\":{\"AWS::StackName\":\"x\"}}"
+    "ValuesShape /pseudo/AWS::StackName"
+unfolding serde_json_on_literals digits
+stack_name_as_pseudo = refl
+
+-- A text that is a number, before a later unknown member.
+attribute_of_a_number : Reports
+    (("out/manifest.json", "{\"artifacts\":{\"S\":{\"type\":\"aws:cloudformation:stack\",\"properties\":{\"templateFile\":\"S.template.json\"}}},\"version\":\"36.0.0\"}") ∷ ("out/S.template.json", "{}") ∷ [])
+    "{\"a\":1,\"physical\":{\"S\":{\"R\":{\"GetAtt\":{\"Arn\":1}}}}}"
+    "ValuesShape /a"
+unfolding serde_json_on_literals digits
+attribute_of_a_number = refl
+
+-- Keys in byte order.
+first_wrong_by_bytes : Reports
+    (("out/manifest.json", "{\"artifacts\":{\"S\":{\"type\":\"aws:cloudformation:stack\",\"properties\":{\"templateFile\":\"S.template.json\"}}},\"version\":\"36.0.0\"}") ∷ ("out/S.template.json", "{}") ∷ [])
+    "{\"parameters\":{\"S\":{\"P\":1}},\"exports\":{\"E\":null}}"
+    "ValuesShape /exports/E"
+unfolding serde_json_on_literals digits
+first_wrong_by_bytes = refl
