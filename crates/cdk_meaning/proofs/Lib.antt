@@ -11,3 +11,4 @@ pub mod Conditions
 pub mod Pseudos
 pub mod Stack
 pub mod InstanceStack
+pub mod Lists

@@ -2,7 +2,8 @@
 use Rattle.std.proofs.Common.{◌≡◌, ℕ, List, [], ◌∷◌, ◌++◌, map, Bool, true, false, refl, sym, ap, ◌∙◌, subst, inl, inr}
 use Rattle.std.specs.Prelude.{bytes_eq, ◌||◌, ◌⊎◌}
 use Rattle.std.proofs.lemmas.Slice.Eq.{bytes_eq-Decides}
-use Rattle.cdk_meaning.specs.Names.{has_name, AreDistinct, IsIn, Each}
+use Rattle.cdk_eval.specs.Reach.{is_among}
+use Rattle.cdk_meaning.specs.Names.{AreDistinct, IsIn, Each}
 use Rattle.cdk_meaning.proofs.Joins.{bytes_same}
 
 pub same_bytes : (k : List ℕ) → bytes_eq k k ≡ true
@@ -20,36 +21,36 @@ pub or_cases : (a b : Bool) → a || b ≡ true → (a ≡ true) ⊎ (b ≡ true
 or_cases true b h = inl refl
 or_cases false b h = inr h
 
-pub has_append : (e : List ℕ) (xs ys : List (List ℕ)) → has_name e (xs ++ ys) ≡ has_name e xs || has_name e ys
+pub has_append : (e : List ℕ) (xs ys : List (List ℕ)) → is_among e (xs ++ ys) ≡ is_among e xs || is_among e ys
 has_append e [] ys = refl
 has_append e (x ∷ xs) ys = at (bytes_eq e x) (has_append e xs ys)
   where
-    at : (b : Bool) → has_name e (xs ++ ys) ≡ has_name e xs || has_name e ys → b || has_name e (xs ++ ys) ≡ (b || has_name e xs) || has_name e ys
+    at : (b : Bool) → is_among e (xs ++ ys) ≡ is_among e xs || is_among e ys → b || is_among e (xs ++ ys) ≡ (b || is_among e xs) || is_among e ys
     at true h = refl
     at false h = h
 
 pub distinct_front : (xs ys : List (List ℕ)) → AreDistinct (xs ++ ys) → AreDistinct xs
 distinct_front [] ys h = tt
-distinct_front (x ∷ xs) ys h = ((neither (has_name x xs) (has_name x ys) (sym (has_append x xs ys) ∙ h.0)).0, distinct_front xs ys h.1)
+distinct_front (x ∷ xs) ys h = ((neither (is_among x xs) (is_among x ys) (sym (has_append x xs ys) ∙ h.0)).0, distinct_front xs ys h.1)
 
 pub distinct_back : (xs ys : List (List ℕ)) → AreDistinct (xs ++ ys) → AreDistinct ys
 distinct_back [] ys h = h
 distinct_back (x ∷ xs) ys h = distinct_back xs ys h.1
 
 -- a name of the first list is none of the second
-pub apart : (e : List ℕ) (xs ys : List (List ℕ)) → AreDistinct (xs ++ ys) → has_name e xs ≡ true → has_name e ys ≡ false
+pub apart : (e : List ℕ) (xs ys : List (List ℕ)) → AreDistinct (xs ++ ys) → is_among e xs ≡ true → is_among e ys ≡ false
 apart e [] ys h is = cc
 apart e (x ∷ xs) ys h is = at (bytes_eq e x) refl (apart e xs ys h.1) is
   where
-    at : (b : Bool) → bytes_eq e x ≡ b → (has_name e xs ≡ true → has_name e ys ≡ false) → b || has_name e xs ≡ true → has_name e ys ≡ false
-    at true same later h' = ap (λ n. has_name n ys) (bytes_same e x same) ∙ (neither (has_name x xs) (has_name x ys) (sym (has_append x xs ys) ∙ h.0)).1
+    at : (b : Bool) → bytes_eq e x ≡ b → (is_among e xs ≡ true → is_among e ys ≡ false) → b || is_among e xs ≡ true → is_among e ys ≡ false
+    at true same later h' = ap (λ n. is_among n ys) (bytes_same e x same) ∙ (neither (is_among x xs) (is_among x ys) (sym (has_append x xs ys) ∙ h.0)).1
     at false same later h' = later h'
 
 -- and a name of the second list none of the first
-pub apart_back : (e : List ℕ) (xs ys : List (List ℕ)) → AreDistinct (xs ++ ys) → has_name e ys ≡ true → has_name e xs ≡ false
-apart_back e xs ys d is = at (has_name e xs) refl
+pub apart_back : (e : List ℕ) (xs ys : List (List ℕ)) → AreDistinct (xs ++ ys) → is_among e ys ≡ true → is_among e xs ≡ false
+apart_back e xs ys d is = at (is_among e xs) refl
   where
-    at : (b : Bool) → has_name e xs ≡ b → b ≡ false
+    at : (b : Bool) → is_among e xs ≡ b → b ≡ false
     at true h = let later = apart e xs ys d h in cc
     at false h = refl
 
@@ -67,10 +68,10 @@ in_either a (x ∷ xs) ys (inr h) = more (in_either a xs ys h)
     more (inl i) = inl (inr i)
     more (inr i) = inr i
 
-pub is_named : (name : ℕ → List ℕ) (n : ℕ) (ns : List ℕ) → IsIn n ns → has_name (name n) (map name ns) ≡ true
+pub is_named : (name : ℕ → List ℕ) (n : ℕ) (ns : List ℕ) → IsIn n ns → is_among (name n) (map name ns) ≡ true
 is_named name n [] h = absurd h
-is_named name n (m ∷ ns) (inl h) = ap (λ k. bytes_eq (name n) (name k) || has_name (name n) (map name ns)) h ∙ ap (λ b. b || has_name (name n) (map name ns)) (same_bytes (name n))
-is_named name n (m ∷ ns) (inr h) = or_right (bytes_eq (name n) (name m)) (has_name (name n) (map name ns)) (is_named name n ns h)
+is_named name n (m ∷ ns) (inl h) = ap (λ k. bytes_eq (name n) (name k) || is_among (name n) (map name ns)) h ∙ ap (λ b. b || is_among (name n) (map name ns)) (same_bytes (name n))
+is_named name n (m ∷ ns) (inr h) = or_right (bytes_eq (name n) (name m)) (is_among (name n) (map name ns)) (is_named name n ns h)
 
 pub each_front : {A : Type 0} (P : A → Type 0) (xs ys : List A) → Each P (xs ++ ys) → Each P xs
 each_front P [] ys h = tt

@@ -11,7 +11,8 @@ use Rattle.serde_json.specs.Find.{get_member}
 use Rattle.serde_json.proofs.Views.{get_member-put, get_member-put_other}
 use Rattle.cdk_base.specs.Pretty.{AllAbove, IsCanonical, MembersAreCanonical}
 use Rattle.cdk_eval.specs.Conditions.{count}
-use Rattle.cdk_meaning.specs.Names.{has_name, AreDistinct, IsIn, Each}
+use Rattle.cdk_eval.specs.Reach.{is_among}
+use Rattle.cdk_meaning.specs.Names.{AreDistinct, IsIn, Each}
 use Rattle.cdk_meaning.specs.Sections.{built, SectionsHold}
 use Rattle.cdk_meaning.proofs.NameLists.{same_bytes, neither, is_named}
 
@@ -66,12 +67,12 @@ module _ (name : ℕ → List ℕ) (entry : ℕ → Data) where
   found_at n [] d h = absurd h
   found_at n (m ∷ ns) d (inl h) = subst (λ (k : ℕ). get_member (name k) (put (name m) (entry m) (built name entry ns)) ≡ Some (entry k)) h (get_member-put (name m) (entry m) (built name entry ns))
   found_at n (m ∷ ns) d (inr h) =
-      get_member-put_other (name n) (name m) (entry m) (built name entry ns) (λ e. let t = is_named name n ns h in let f : has_name (name n) (map name ns) ≡ false = rw e d.0 in cc (t, f)) ∙ found_at n ns d.1 h
+      get_member-put_other (name n) (name m) (entry m) (built name entry ns) (λ e. let t = is_named name n ns h in let f : is_among (name n) (map name ns) ≡ false = rw e d.0 in cc (t, f)) ∙ found_at n ns d.1 h
 
-  pub lacked : (k : List ℕ) (ns : List ℕ) → has_name k (map name ns) ≡ false → get_member k (built name entry ns) ≡ None
+  pub lacked : (k : List ℕ) (ns : List ℕ) → is_among k (map name ns) ≡ false → get_member k (built name entry ns) ≡ None
   lacked k [] h = refl
   lacked k (m ∷ ns) h =
-      let p = neither (bytes_eq k (name m)) (has_name k (map name ns)) h in
+      let p = neither (bytes_eq k (name m)) (is_among k (map name ns)) h in
       get_member-put_other k (name m) (entry m) (built name entry ns) (λ e. let t : bytes_eq k (name m) ≡ true = rw e (same_bytes (name m)) in cc (t, p.0)) ∙ lacked k ns p.1
 
   pub as_many : (ns : List ℕ) → AreDistinct (map name ns) → count (built name entry ns) ≡ length ns

@@ -12,3 +12,4 @@ pub mod Sections
 pub mod ConditionsKept
 pub mod Constructs
 pub mod StackTemplate
+pub mod ListsKept

@@ -1,13 +1,10 @@
 -- Lists of names and of constructs (own).
 use Rattle.std.specs.Prelude.{◌≡◌, ℕ, List, [], ◌∷◌, Bool, false, bytes_eq, ◌||◌, ◌⊎◌, ⊤}
-
-abbrev pub has_name : List ℕ → List (List ℕ) → Bool
-has_name e [] = false
-has_name e (n ∷ ns) = bytes_eq e n || has_name e ns
+use Rattle.cdk_eval.specs.Reach.{is_among}
 
 abbrev pub AreDistinct : List (List ℕ) → Type 0
 AreDistinct [] = ⊤
-AreDistinct (n ∷ ns) = (has_name n ns ≡ false) × AreDistinct ns
+AreDistinct (n ∷ ns) = (is_among n ns ≡ false) × AreDistinct ns
 
 abbrev pub IsIn : {A : Type 0} → A → List A → Type 0
 IsIn a [] = ⊥

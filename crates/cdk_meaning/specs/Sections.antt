@@ -4,7 +4,8 @@ use Rattle.serde_json.specs.Data.{Data, Members, no_members, put}
 use Rattle.serde_json.specs.Find.{get_member}
 use Rattle.cdk_base.specs.Pretty.{IsCanonical, MembersAreCanonical}
 use Rattle.cdk_eval.specs.Conditions.{count}
-use Rattle.cdk_meaning.specs.Names.{has_name, AreDistinct, IsIn, Each}
+use Rattle.cdk_eval.specs.Reach.{is_among}
+use Rattle.cdk_meaning.specs.Names.{AreDistinct, IsIn, Each}
 
 abbrev pub built : (ℕ → List ℕ) → (ℕ → Data) → List ℕ → Members
 built name entry [] = no_members
@@ -14,7 +15,7 @@ built name entry (n ∷ ns) = put (name n) (entry n) (built name entry ns)
 -- order.
 pub record IsSection (name : ℕ → List ℕ) (entry : ℕ → Data) (ns : List ℕ) : Type 0 where
   pub found : (n : ℕ) → IsIn n ns → get_member (name n) (built name entry ns) ≡ Some (entry n)
-  pub lacks : (k : List ℕ) → has_name k (map name ns) ≡ false → get_member k (built name entry ns) ≡ None
+  pub lacks : (k : List ℕ) → is_among k (map name ns) ≡ false → get_member k (built name entry ns) ≡ None
   pub counted : count (built name entry ns) ≡ length ns
   pub ordered : Each (λ n. IsCanonical (entry n)) ns → MembersAreCanonical (built name entry ns)
 
