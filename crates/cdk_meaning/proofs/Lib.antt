@@ -12,3 +12,6 @@ pub mod Pseudos
 pub mod Stack
 pub mod InstanceStack
 pub mod Lists
+pub mod Exports
+pub mod ListItems
+pub mod Assembly

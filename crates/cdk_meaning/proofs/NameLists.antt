@@ -84,3 +84,7 @@ each_back P (x ∷ xs) ys h = each_back P xs ys h.1
 pub each_more : {A : Type 0} (P Q : A → Type 0) (xs : List A) → ((x : A) → IsIn x xs → P x → Q x) → Each P xs → Each Q xs
 each_more P Q [] f h = tt
 each_more P Q (x ∷ xs) f h = (f x (inl refl) h.0, each_more P Q xs (λ y i. f y (inr i)) h.1)
+
+pub in_back : {A : Type 0} (a : A) (xs ys : List A) → IsIn a ys → IsIn a (xs ++ ys)
+in_back a [] ys i = i
+in_back a (x ∷ xs) ys i = inr (in_back a xs ys i)

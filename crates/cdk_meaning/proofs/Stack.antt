@@ -245,7 +245,7 @@ module _ (v : Values) (cs : Constructs) (p : Parts) (target : ℕ → Home) (att
   -- ---- what an expression mentions
 
   module _ (exports : List ℕ → Option (List ℕ)) (most : ℕ) (l : length p.conditions ≤ most) where
-    target_mentioned : (n : ℕ) (o : Home) → TargetStands cs (p.parameters ++ p.resources) exports n o (target_meaning v (truth v cs most) (cs.stack n) (cs.logical n) (cs.element n)) → TargetKept (scope v stack template exports) o (target_meaning v (truth v cs most) (cs.stack n) (cs.logical n) (cs.element n))
+    pub target_mentioned : (n : ℕ) (o : Home) → TargetStands cs (p.parameters ++ p.resources) exports n o (target_meaning v (truth v cs most) (cs.stack n) (cs.logical n) (cs.element n)) → TargetKept (scope v stack template exports) o (target_meaning v (truth v cs most) (cs.stack n) (cs.logical n) (cs.element n))
     target_mentioned n (Local k) (e, i) =
         ap (λ m. seen (ref_outcome (scope v stack template exports) m)) e
         ∙ ap seen (plain_ref (scope v stack template exports) (cs.logical n) refl (each_at (λ m. has_colon (cs.logical m) ≡ false) n (p.parameters ++ p.resources) w.names i)) ∙ target_stands most n l i

@@ -13,3 +13,4 @@ pub mod ConditionsKept
 pub mod Constructs
 pub mod StackTemplate
 pub mod ListsKept
+pub mod AssemblyKept

@@ -4,6 +4,8 @@ ghost use Rattle.cdk_meaning.specs.Kept.{RenderingKeepsMeaning};
 ghost use Rattle.cdk_meaning.specs.ConditionsKept.{ConditionsKeepTruth};
 ghost use Rattle.cdk_meaning.specs.Sections.{SectionsHold};
 ghost use Rattle.cdk_meaning.specs.StackTemplate.{StacksKeepMeaning};
+ghost use Rattle.cdk_meaning.specs.ListsKept.{CuttingUndoesJoining};
+ghost use Rattle.cdk_meaning.specs.AssemblyKept.{StacksFollow, ImportsStand, AssembliesKeepMeaning};
 
 /// In every template, under all values, the outcome of a literal is the literal: a text, a whole number of 64 bits, a truth
 /// value, or an array or object of these without an intrinsic's key.
@@ -38,4 +40,26 @@ pub fn conditions_keep_truth()
 /// and what it imports is there.
 pub fn stacks_keep_meaning()
     ensures { StacksKeepMeaning }
+{}
+
+/// Items of which none holds a `|`, at least one, are the same again when their join by `||` is cut at each `||`.
+pub fn cutting_undoes_joining()
+    ensures { CuttingUndoesJoining }
+{}
+
+/// In an assembly a stack is evaluated under the exports that those before it left.
+pub fn stacks_follow()
+    ensures { StacksFollow }
+{}
+
+/// The import of an export of a stack before is what the exported construct means, and `NoExport` exactly where that is undefined.
+pub fn imports_stand()
+    ensures { ImportsStand }
+{}
+
+/// In each stack of an assembly, after those before it and under all values, the outcome of a rendered expression agrees with
+/// the expression's meaning, where what it mentions is in the stack or is exported by one before. Of the items of a list that
+/// crosses stacks none may hold a `|`.
+pub fn assemblies_keep_meaning()
+    ensures { AssembliesKeepMeaning }
 {}
