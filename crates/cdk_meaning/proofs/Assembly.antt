@@ -202,9 +202,9 @@ module _ (v : Values) (cs : Constructs) (most : ℕ) (before : List Stack) (s : 
       d
       (none_outside e (named_in e k.output k.producer before k.stands_before among named)) k.stands_before among named
       (λ ys.
-          output_told (presence v k.producer.name k.producer.template k.output) (scope v k.producer.name k.producer.template ys) k.output local e k.value k.name
-          ∙ ap (λ b. text_if b (text_in (seen (outcome (scope v k.producer.name k.producer.template ys) local)))) (presence_stands v cs k.parts k.targets k.attributes k.entry k.producer.name k.producer.template k.built_of most (guard_in (cs.element n)) k.output k.few k.guard (guard_there own n local e k i))
-          ∙ ap (λ x. text_if (presence_of (truth v cs most) (guard_in (cs.element n))) (text_in x)) (means ys))
+      output_told (presence v k.producer.name k.producer.template k.output) (scope v k.producer.name k.producer.template ys) k.output local e k.value k.name
+      ∙ ap (λ b. text_if b (text_in (seen (outcome (scope v k.producer.name k.producer.template ys) local)))) (presence_stands v cs k.parts k.targets k.attributes k.entry k.producer.name k.producer.template k.built_of most (guard_in (cs.element n)) k.output k.few k.guard (guard_there own n local e k i))
+      ∙ ap (λ x. text_if (presence_of (truth v cs most) (guard_in (cs.element n))) (text_in x)) (means ys))
 
   abbrev meant : ℕ → Meaning
   meant n = target_meaning v (truth v cs most) (cs.stack n) (cs.logical n) (cs.element n)
@@ -255,10 +255,10 @@ module _ (v : Values) (cs : Constructs) (most : ℕ) (before : List Stack) (s : 
 
 pub imports_stand : ImportsStand
 imports_stand v cs most before s later w d n e = record {
-    of_ref = λ k. ap (text_or NoExport) (ref_text v cs most before s later w d n e k);
-    of_list = λ k. ap (text_or NoExport) (list_text v cs most before s later w d n e k);
-    of_attribute = λ a k. ap (text_or NoExport) (attribute_exported v cs most before s later w d n a e k)
-  }
+  of_ref = λ k. ap (text_or NoExport) (ref_text v cs most before s later w d n e k);
+  of_list = λ k. ap (text_or NoExport) (list_text v cs most before s later w d n e k);
+  of_attribute = λ a k. ap (text_or NoExport) (attribute_exported v cs most before s later w d n a e k);
+}
 
 pub assemblies_keep_meaning : AssembliesKeepMeaning
 assemblies_keep_meaning v cs most before s later w d p target attribute entry t l e well k =

@@ -7,7 +7,7 @@ use Rattle.cdk_eval.specs.Texts.{item_texts, cut}
 use Rattle.cdk_eval.specs.declared.fault.EvalFault.{EvalFault}
 use Rattle.cdk_eval.specs.declared.fault.EvalFault.TheVariants.{NotText, NoItem}
 use Rattle.cdk_meaning.specs.Source.{Meaning, Means, MeansNothing, Undefined}
-use Rattle.cdk_meaning.specs.Agreement.{Agrees, seen, seen_truth}
+use Rattle.cdk_meaning.specs.Agreement.{Agrees, AgreementIsSeen, seen, seen_truth}
 use Rattle.cdk_meaning.specs.Meaning.{or_undefined, means_text, with_item, with_member, means_array, means_object, text_in, joined_texts, items_in, joined_items, item_at, cut_at, chosen, leaf_at}
 use Rattle.cdk_eval.specs.Outcomes.{Outcome, Value, Gone, Fault, Truth, Holds, Untold, Listed, Lists, NotListed, Fielded, Has, NotFielded, first_item, first_member, array_outcome, object_outcome, value_or, text_or, on_some_text, on_text, picked, before_fault}
 use Rattle.cdk_eval.specs.Template.{join_texts, join_args, select_args, split_args}
@@ -24,6 +24,20 @@ agrees_seen Gone Undefined h = cc
 agrees_seen (Fault f) (Means e) h = cc
 agrees_seen (Fault f) MeansNothing h = cc
 agrees_seen (Fault f) Undefined h = tt
+
+pub seen_agrees : (o : Outcome) (m : Meaning) → Agrees o m → seen o ≡ m
+seen_agrees (Value d) (Means e) h = ap Means h
+seen_agrees (Value d) MeansNothing h = absurd h
+seen_agrees (Value d) Undefined h = absurd h
+seen_agrees Gone (Means e) h = absurd h
+seen_agrees Gone MeansNothing h = refl
+seen_agrees Gone Undefined h = absurd h
+seen_agrees (Fault f) (Means e) h = absurd h
+seen_agrees (Fault f) MeansNothing h = absurd h
+seen_agrees (Fault f) Undefined h = refl
+
+pub agreement_is_seen : AgreementIsSeen
+agreement_is_seen o m = (seen_agrees o m, agrees_seen o m)
 
 abbrev pub listed : Listed → Option Items
 listed (Lists ds) = Some ds

@@ -1,19 +1,28 @@
 -- A stack at which the laws on rendering, sections, conditions and stacks meet their premises: two parameters, two conditions, a
 -- mapping and two resources, one of them made under a condition.
-use Rattle.std.proofs.Common.{arith, ◌≡◌, ℕ, List, [], ◌∷◌, Option, Some, None, refl, inl, inr}
+use Rattle.std.proofs.Common.{false, arith, ◌≡◌, ℕ, List, [], ◌∷◌, Option, Some, None, refl, inl, inr}
 use Rattle.std.specs.Prelude.{◌==◌, bytes_eq, codes, if◌then◌else◌}
 use Rattle.serde_json.specs.Data.{Data, string, array, object, no_items, item, no_members, member}
 use Rattle.cdk_eval.specs.Values.{no_values}
 use Rattle.cdk_eval.specs.Outcomes.{Value}
 use Rattle.cdk_eval.specs.Template.{outcome}
-use Rattle.cdk_eval.specs.Sections.{scope}
-use Rattle.cdk_meaning.specs.Plain.{Plain, text, list_of, ref, get_att, concat, join, choice, find_in_map, no_plains, plain, equals, negation, named}
+use Rattle.serde_json.specs.Find.{get_member}
+use Rattle.cdk_eval.specs.Conditions.{named_truth}
+use Rattle.cdk_eval.specs.Sections.{operand_scope, scope}
+use Rattle.cdk_meaning.specs.Plain.{Plain, pseudo, region, text, list_of, ref, get_att, concat, join, choice, find_in_map, no_plains, plain, equals, negation, named}
 use Rattle.cdk_meaning.specs.Meaning.{meaning}
-use Rattle.cdk_meaning.specs.Agreement.{Agrees}
+use Rattle.cdk_meaning.specs.Agreement.{Agrees, seen_truth}
 use Rattle.cdk_meaning.specs.Rendered.{Home, Local, Import, one, two, rendered}
-use Rattle.cdk_meaning.specs.Constructs.{text_form, list_form, Element, parameter_of, resource_of, condition_of, mapping_of, other_element, Constructs, source_of}
+use Rattle.cdk_meaning.specs.Constructs.{text_form, list_form, Element, parameter_of, resource_of, condition_of, mapping_of, other_element, Constructs, source_at, condition_at, source_of}
 use Rattle.cdk_meaning.specs.StackTemplate.{Parts, homes_of, IsTemplateOf}
-use Rattle.cdk_meaning.proofs.Stack.{stacks_keep_meaning}
+use Rattle.cdk_meaning.specs.Sections.{built}
+use Rattle.cdk_meaning.specs.ConditionsKept.{condition_section, AreStackConditions}
+use Rattle.cdk_meaning.specs.Source.{Means}
+use Rattle.cdk_meaning.proofs.Sections.{sections_hold}
+use Rattle.cdk_meaning.proofs.Conditions.{conditions_kept}
+use Rattle.cdk_meaning.proofs.Kept.{rendering_kept}
+use Rattle.cdk_meaning.proofs.Pseudos.{pseudos_kept}
+use Rattle.cdk_meaning.proofs.Stack.{stack_conditions, stacks_keep_meaning}
 
 -- 1 Stage, 2 Zones, 3 IsProd, 4 NotProd, 5 Sizes, 6 Bucket, 7 Topic; 8 Vpc of the stack Net
 abbrev rows : Data
@@ -107,3 +116,20 @@ written_agrees =
 -- and its value
 written_is : outcome (scope no_values (codes "Shop") template exports) (rendered (homes_of constructs target attribute) written) ≡ Value (string (codes "x-Shop.TopicShop.Bucket.Arnbig-a+bNet.Vpc"))
 written_is = refl
+
+-- ---- the laws that this one rests on, at the same stack
+
+pub bucket_found : get_member (codes "Bucket") (built logical entry (6 ∷ 7 ∷ [])) ≡ Some (entry 6)
+bucket_found = (sections_hold logical entry (6 ∷ 7 ∷ []) (refl, (refl, tt))).found 6 (inl refl)
+
+pub shop_conditions : AreStackConditions (source_at no_values constructs) (homes_of constructs target attribute) (operand_scope no_values (codes "Shop") template) (condition_at constructs) (3 ∷ 4 ∷ [])
+shop_conditions = stack_conditions no_values constructs shop target attribute entry (codes "Shop") template shop_template
+
+-- `NotProd` is false
+pub not_prod : seen_truth (named_truth (outcome (operand_scope no_values (codes "Shop") template)) (condition_section (homes_of constructs target attribute) (condition_at constructs) (3 ∷ 4 ∷ [])) (codes "NotProd")) ≡ Some false
+not_prod = conditions_kept (source_at no_values constructs) (homes_of constructs target attribute) (operand_scope no_values (codes "Shop") template) (condition_at constructs) (3 ∷ 4 ∷ []) shop_conditions 2 4 (omega arith) (inr (inl refl))
+
+pub topic_agrees : Agrees (outcome (scope no_values (codes "Shop") template exports) (rendered (homes_of constructs target attribute) (concat (plain (ref 7) (plain (pseudo region) no_plains))))) (Means (string (codes "Shop.Topicus-east-1")))
+topic_agrees =
+    rendering_kept (source_of no_values constructs 2 (codes "Shop")) (homes_of constructs target attribute) (scope no_values (codes "Shop") template exports) (pseudos_kept no_values constructs (codes "Shop") template 2 exports)
+    (concat (plain (ref 7) (plain (pseudo region) no_plains))) (tt, (tt, tt)) (refl, tt)

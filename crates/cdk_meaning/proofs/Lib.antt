@@ -15,3 +15,4 @@ pub mod Lists
 pub mod Exports
 pub mod ListItems
 pub mod Assembly
+pub mod InstanceAssembly

@@ -168,7 +168,7 @@ module _ (v : Values) (cs : Constructs) (p : Parts) (target : ℕ → Home) (att
   operand_kept c (to_mapping m) k = mapping_stands m k
   operand_kept c (to_import e) k = absurd k
 
-  stack_conditions : AreStackConditions (source_at v cs) h (operand_scope v stack template) (condition_at cs) p.conditions
+  pub stack_conditions : AreStackConditions (source_at v cs) h (operand_scope v stack template) (condition_at cs) p.conditions
   stack_conditions = record {
     distinct = w.conditions_apart;
     closed = w.closed;

@@ -1,5 +1,5 @@
 -- When the outcome of a template's value agrees with the meaning of a plain expression (own).
-use Rattle.std.specs.Prelude.{◌≡◌, Bool, Option, Some, None, ⊤}
+use Rattle.std.specs.Prelude.{◌≡◌, ◌↔◌, Bool, Option, Some, None, ⊤}
 use Rattle.cdk_eval.specs.Outcomes.{Outcome, Value, Gone, Fault, Truth, Holds, Untold}
 use Rattle.cdk_meaning.specs.Source.{Meaning, Means, MeansNothing, Undefined}
 
@@ -25,3 +25,7 @@ seen (Fault f) = Undefined
 abbrev pub seen_truth : Truth → Option Bool
 seen_truth (Holds b) = Some b
 seen_truth (Untold f) = None
+
+-- Agreement is an equation of meanings: so it never turns on which fault comes first.
+abbrev pub AgreementIsSeen : Type 0
+AgreementIsSeen = (o : Outcome) (m : Meaning) → Agrees o m ↔ (seen o ≡ m)

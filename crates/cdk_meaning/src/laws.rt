@@ -1,4 +1,5 @@
 // The laws between the meaning of plain expressions and the outcomes of templates.
+ghost use Rattle.cdk_meaning.specs.Agreement.{AgreementIsSeen};
 ghost use Rattle.cdk_meaning.specs.Literals.{LiteralsStand, LiteralsAreRendered};
 ghost use Rattle.cdk_meaning.specs.Kept.{RenderingKeepsMeaning};
 ghost use Rattle.cdk_meaning.specs.ConditionsKept.{ConditionsKeepTruth};
@@ -6,6 +7,11 @@ ghost use Rattle.cdk_meaning.specs.Sections.{SectionsHold};
 ghost use Rattle.cdk_meaning.specs.StackTemplate.{StacksKeepMeaning};
 ghost use Rattle.cdk_meaning.specs.ListsKept.{CuttingUndoesJoining};
 ghost use Rattle.cdk_meaning.specs.AssemblyKept.{StacksFollow, ImportsStand, AssembliesKeepMeaning};
+
+/// An outcome agrees with a meaning exactly where both are the same once faults are told apart no more.
+pub fn agreement_is_seen()
+    ensures { AgreementIsSeen }
+{}
 
 /// In every template, under all values, the outcome of a literal is the literal: a text, a whole number of 64 bits, a truth
 /// value, or an array or object of these without an intrinsic's key.

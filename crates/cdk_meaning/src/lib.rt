@@ -4,4 +4,8 @@
 
 mod laws;
 
-pub use laws::{assemblies_keep_meaning, conditions_keep_truth, cutting_undoes_joining, imports_stand, literals_are_rendered, literals_stand, rendering_keeps_meaning, sections_hold, stacks_follow, stacks_keep_meaning};
+pub use laws::{
+    agreement_is_seen, assemblies_keep_meaning, conditions_keep_truth, cutting_undoes_joining,
+    imports_stand, literals_are_rendered, literals_stand, rendering_keeps_meaning, sections_hold,
+    stacks_follow, stacks_keep_meaning,
+};
