@@ -1,5 +1,5 @@
 -- The meaning is kept in each stack of an assembly.
-use Rattle.std.proofs.Common.{◌≡◌, ◌≤◌, ℕ, List, [], ◌∷◌, ◌++◌, length, Bool, true, false, ◌||◌, Option, Some, None, refl, sym, ap, ◌∙◌, subst, inl, inr}
+use Rattle.std.proofs.Common.{◌≡◌, ℕ, List, ◌∷◌, ◌++◌, Bool, true, false, ◌||◌, Option, Some, None, refl, sym, ap, ◌∙◌, subst, inl, inr}
 use Rattle.std.proofs.lemmas.Grind.{flat_map-append}
 use Rattle.std.specs.Prelude.{◌⊎◌, codes, if◌then◌else◌, option_map, option_and_then, unwrap_or}
 use Rattle.std.specs.Option.{option_or}
@@ -9,24 +9,24 @@ use Rattle.cdk_base.specs.Json.{text_of}
 use Rattle.cdk_eval.specs.declared.fault.EvalFault.TheVariants.{NoExport}
 use Rattle.cdk_eval.specs.Values.{Values, physical_text, attribute_text}
 use Rattle.cdk_eval.specs.Outcomes.{Outcome, Value, Gone, Fault, text_or, Truth, Holds, Untold, OutputOutcome, OutputText, OutputNotMade, OutputFault}
-use Rattle.cdk_eval.specs.Texts.{item_texts, join_with, cut, list_items}
+use Rattle.cdk_eval.specs.Texts.{list_items}
 use Rattle.cdk_eval.specs.Template.{Scope, outcome}
 use Rattle.cdk_eval.specs.Reach.{is_among}
 use Rattle.cdk_eval.specs.Sections.{section, presence, scope}
-use Rattle.cdk_eval.specs.Stack.{Stack, some_text, text_outcome, value_and_name, made_output, output_value, export_name, output_at}
-use Rattle.cdk_eval.specs.Assembly.{entries, literal_name, literal_names, outside_exports}
+use Rattle.cdk_eval.specs.Stack.{Stack, some_text, text_outcome, value_and_name, made_output, output_value, output_at}
+use Rattle.cdk_eval.specs.Assembly.{literal_name, literal_names, outside_exports}
 use Rattle.cdk_meaning.specs.Mentions.{Mention, to_target, to_attribute, to_condition, to_mapping, to_import, mentions}
-use Rattle.cdk_meaning.specs.Source.{Meaning, Means, MeansNothing, Undefined}
+use Rattle.cdk_meaning.specs.Source.{Meaning, Means}
 use Rattle.cdk_meaning.specs.Meaning.{means_text, text_in, items_in, joined_texts, joined_items, cut_at}
 use Rattle.cdk_meaning.specs.Agreement.{seen, seen_truth}
 use Rattle.cdk_meaning.specs.Rendered.{Home, Local, Import, ImportList, list_delimiter, join_json, ref_json, attribute_json}
 use Rattle.cdk_meaning.specs.Names.{AreDistinct, IsIn, Each}
-use Rattle.cdk_meaning.specs.Constructs.{text_form, number_form, list_form, ParameterForm, Element, parameter_of, resource_of, condition_of, mapping_of, other_element, Constructs, means_parameter, presence_of, means_made, truth, target_meaning, attribute_meaning, source_of}
-use Rattle.cdk_meaning.specs.StackTemplate.{Parts, IsParameterEntry, IsGuardIn, IsResourceEntry, homes_of, IsTemplateOf, TargetStands, MentionStands}
+use Rattle.cdk_meaning.specs.Constructs.{text_form, number_form, list_form, Element, parameter_of, resource_of, condition_of, mapping_of, other_element, Constructs, means_parameter, presence_of, means_made, truth, target_meaning, attribute_meaning, source_of}
+use Rattle.cdk_meaning.specs.StackTemplate.{Parts, IsParameterEntry, IsGuardIn, IsResourceEntry, homes_of, TargetStands, MentionStands}
 use Rattle.cdk_meaning.specs.ListsKept.{text_items}
 use Rattle.cdk_meaning.specs.AssemblyKept.{exports_left, name_of, NamesAreLiteral, guard_in, IsExported, targets_in, resources_in, IsTextElement, IsListElement, ItemsHaveNoBar, HasNoBar, TargetIsThere, AttributeIsThere, MentionIsThere, ImportsStand, AssembliesKeepMeaning}
 use Rattle.cdk_meaning.proofs.Joins.{seen_join_of}
-use Rattle.cdk_meaning.proofs.NameLists.{neither, has_append, distinct_front, each_at, each_more, in_either, in_back}
+use Rattle.cdk_meaning.proofs.NameLists.{neither, has_append, each_at, each_more, in_either, in_back}
 use Rattle.cdk_meaning.proofs.Stack.{presence_stands, attribute_stands, target_mentioned, stacks_keep_meaning}
 use Rattle.cdk_meaning.proofs.Lists.{cutting_undoes_joining}
 use Rattle.cdk_meaning.proofs.ListItems.{AreTexts, list_texts, texts_of_items, each_has_no_bar}

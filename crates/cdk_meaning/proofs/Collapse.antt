@@ -1,5 +1,5 @@
 -- What an intrinsic does, seen with its faults told apart no more.
-use Rattle.std.proofs.Common.{◌≡◌, ℕ, List, [], ◌∷◌, true, false, Option, Some, None, refl, sym}
+use Rattle.std.proofs.Common.{ap, ◌≡◌, ℕ, List, [], ◌∷◌, true, false, Option, Some, None, refl, sym}
 use Rattle.serde_json.specs.Data.{Data, string, array, Items, Members}
 use Rattle.cdk_base.specs.Json.{text_of}
 use Rattle.serde_json.specs.Find.{get_item}

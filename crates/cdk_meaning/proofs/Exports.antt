@@ -1,6 +1,5 @@
 -- What stacks one after another export.
-use Rattle.std.proofs.Common.{◌≡◌, ℕ, List, [], ◌∷◌, ◌++◌, Bool, true, false, ◌||◌, Option, Some, None, refl, sym, ap, ◌∙◌, subst, inl, inr}
-use Rattle.std.proofs.lemmas.Grind.{flat_map-append}
+use Rattle.std.proofs.Common.{◌≡◌, ℕ, List, [], ◌∷◌, Bool, true, false, ◌||◌, Option, Some, None, refl, sym, ap, ◌∙◌, subst, inl, inr}
 use Rattle.std.specs.Prelude.{bytes_eq, codes, if◌then◌else◌, filter_map, option_map, option_and_then}
 use Rattle.std.specs.Option.{option_or}
 use Rattle.std.specs.List.{cons_option}
@@ -15,12 +14,12 @@ use Rattle.cdk_eval.specs.Outcomes.{Truth, OutputOutcome, OutputText, OutputNotM
 use Rattle.cdk_eval.specs.Template.{Scope, outcome}
 use Rattle.cdk_eval.specs.Reach.{is_among}
 use Rattle.cdk_eval.specs.Sections.{section, presence, scope}
-use Rattle.cdk_eval.specs.Stack.{Stack, text_outcome, output_at, export_name, export_entry, export_entries, lookup, stack_outcome, stack_exports, exports_after}
-use Rattle.cdk_eval.specs.Assembly.{entries, literal_name, literal_names, stack_outcomes}
+use Rattle.cdk_eval.specs.Stack.{Stack, text_outcome, output_at, export_entry, export_entries, lookup, stack_outcome, stack_exports, exports_after}
+use Rattle.cdk_eval.specs.Assembly.{entries, literal_name, literal_names}
 use Rattle.cdk_meaning.specs.Names.{AreDistinct, IsIn, Each}
 use Rattle.cdk_meaning.specs.AssemblyKept.{exports_left, StacksFollow, IsLiteralName, name_of, NamesAreLiteral}
 use Rattle.cdk_meaning.proofs.Joins.{bytes_same}
-use Rattle.cdk_meaning.proofs.NameLists.{same_bytes, neither, or_right, has_append, distinct_front, distinct_back, apart, apart_back, each_at}
+use Rattle.cdk_meaning.proofs.NameLists.{same_bytes, neither, or_right, has_append, distinct_front, distinct_back, apart, apart_back}
 
 pub stacks_follow : StacksFollow
 stacks_follow v exports [] s later = refl

@@ -1,8 +1,8 @@
 -- Two stacks at which the laws on assemblies and on lists that cross stacks meet their premises: the second imports an attribute, a list
 -- and a resource that isn't made from the first, and an export of another application.
-use Rattle.std.proofs.Common.{arith, ◌≡◌, ◌≤◌, ℕ, List, [], ◌∷◌, ◌++◌, length, true, false, Option, Some, None, refl, inl, inr}
+use Rattle.std.proofs.Common.{arith, ◌≡◌, ℕ, List, [], ◌∷◌, Some, None, refl, inl, inr}
 use Rattle.std.specs.Prelude.{◌==◌, bytes_eq, codes, if◌then◌else◌}
-use Rattle.serde_json.specs.Data.{Data, string, array, object, no_items, item, no_members, member}
+use Rattle.serde_json.specs.Data.{Data, string, object, no_members, member}
 use Rattle.cdk_eval.specs.declared.fault.EvalFault.TheVariants.{NoExport}
 use Rattle.cdk_eval.specs.Values.{Values}
 use Rattle.cdk_eval.specs.Outcomes.{Value, Fault}

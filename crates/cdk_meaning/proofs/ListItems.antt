@@ -1,8 +1,8 @@
 -- The items of a list parameter are texts, at least one.
-use Rattle.std.proofs.Common.{◌≡◌, ℕ, zero, suc, List, [], ◌∷◌, ◌++◌, length, map, Bool, true, false, Option, Some, None, refl, sym, ap, ◌∙◌}
+use Rattle.std.proofs.Common.{◌≡◌, ℕ, zero, suc, List, [], ◌∷◌, ◌++◌, length, map, Bool, true, false, Some, refl, ap, ◌∙◌}
 use Rattle.std.specs.Prelude.{◌-◌, nat_eq, if◌then◌else◌, codes}
 use Rattle.std.specs.List.{starts_with}
-use Rattle.serde_json.specs.Data.{string, Items, no_items, item}
+use Rattle.serde_json.specs.Data.{string, Items, item}
 use Rattle.cdk_eval.specs.Texts.{text_before, item_texts, cut, trimmed, trimmed_items, list_items}
 use Rattle.cdk_meaning.specs.Names.{Each}
 use Rattle.cdk_meaning.specs.ListsKept.{has_bar, text_items}

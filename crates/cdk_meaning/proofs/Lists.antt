@@ -1,9 +1,9 @@
 -- Cutting at `||` undoes joining by it, where no item holds a `|`.
-use Rattle.std.proofs.Common.{◌≡◌, ℕ, zero, suc, List, [], ◌∷◌, ◌++◌, Bool, true, false, refl, sym, ap, ◌∙◌, append_assoc, append-nil, eq-eqb, eqb-true}
-use Rattle.std.specs.Prelude.{◌==◌, ◌&&◌, ◌||◌, nat_eq, if◌then◌else◌, codes}
+use Rattle.std.proofs.Common.{◌≡◌, ℕ, List, [], ◌∷◌, ◌++◌, Bool, true, false, refl, sym, ap, ◌∙◌, append_assoc, append-nil, eq-eqb, eqb-true}
+use Rattle.std.specs.Prelude.{◌==◌, ◌&&◌, nat_eq, if◌then◌else◌}
 use Rattle.std.specs.List.{starts_with}
-use Rattle.serde_json.specs.Data.{string, Items, no_items, item}
-use Rattle.cdk_eval.specs.Texts.{with_before, join_with, cut}
+use Rattle.serde_json.specs.Data.{string, item}
+use Rattle.cdk_eval.specs.Texts.{with_before, cut}
 use Rattle.cdk_meaning.specs.Rendered.{list_delimiter}
 use Rattle.cdk_meaning.specs.Names.{Each}
 use Rattle.cdk_meaning.specs.ListsKept.{has_bar, text_items, CuttingUndoesJoining}

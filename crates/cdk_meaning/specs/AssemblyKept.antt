@@ -1,7 +1,7 @@
 -- In each stack of an assembly, after those before it, a rendered expression has the outcome that it means (own; exports and imports
 -- are CloudFormation's).
-use Rattle.std.specs.Prelude.{◌≡◌, ◌≤◌, ℕ, List, [], ◌∷◌, ◌++◌, length, Bool, false, Option, Some, None, option_map, option_and_then, filter_map, codes, ⊤}
-use Rattle.serde_json.specs.Data.{Data, null, boolean, number, string, array, object, Items, no_items, item}
+use Rattle.std.specs.Prelude.{◌≡◌, ◌≤◌, ℕ, List, [], ◌∷◌, ◌++◌, length, false, Option, Some, None, option_map, option_and_then, codes, ⊤}
+use Rattle.serde_json.specs.Data.{Data, string, array, Items, no_items, item}
 use Rattle.serde_json.specs.Find.{get, get_member}
 use Rattle.cdk_eval.specs.declared.fault.EvalFault.TheVariants.{NoExport}
 use Rattle.cdk_eval.specs.Values.{Values}
@@ -9,16 +9,16 @@ use Rattle.cdk_eval.specs.Outcomes.{text_or}
 use Rattle.cdk_eval.specs.Template.{outcome}
 use Rattle.cdk_eval.specs.Reach.{is_among}
 use Rattle.cdk_eval.specs.Sections.{section, scope}
-use Rattle.cdk_eval.specs.Stack.{Stack, StackOutcome, stack_outcome, exports_after}
+use Rattle.cdk_eval.specs.Stack.{Stack, stack_outcome, exports_after}
 use Rattle.cdk_eval.specs.Assembly.{entries, literal_names, outside_exports, stack_outcomes}
 use Rattle.cdk_meaning.specs.Plain.{Plain, IsWell}
 use Rattle.cdk_meaning.specs.Mentions.{Mention, to_target, to_attribute, to_condition, to_mapping, to_import, mentions}
-use Rattle.cdk_meaning.specs.Source.{Meaning, Means, MeansNothing, Undefined, Source}
+use Rattle.cdk_meaning.specs.Source.{Meaning, Means, Source}
 use Rattle.cdk_meaning.specs.Meaning.{text_in, items_in, joined_items, meaning}
 use Rattle.cdk_meaning.specs.Agreement.{Agrees}
 use Rattle.cdk_meaning.specs.Rendered.{Home, Local, Import, ImportList, list_delimiter, join_json, import_json, ref_json, attribute_json, rendered}
 use Rattle.cdk_meaning.specs.Names.{AreDistinct, IsIn, Each}
-use Rattle.cdk_meaning.specs.Constructs.{text_form, number_form, list_form, Element, parameter_of, resource_of, condition_of, mapping_of, other_element, Constructs, source_of}
+use Rattle.cdk_meaning.specs.Constructs.{text_form, number_form, list_form, Element, parameter_of, resource_of, Constructs, source_of}
 use Rattle.cdk_meaning.specs.StackTemplate.{Parts, homes_of, IsTemplateOf}
 use Rattle.cdk_meaning.specs.ListsKept.{has_bar}
 

@@ -1,5 +1,5 @@
 -- Lists of names and of constructs (own).
-use Rattle.std.specs.Prelude.{◌≡◌, ℕ, List, [], ◌∷◌, Bool, false, bytes_eq, ◌||◌, ◌⊎◌, ⊤}
+use Rattle.std.specs.Prelude.{◌≡◌, ℕ, List, [], ◌∷◌, false, ◌⊎◌, ⊤}
 use Rattle.cdk_eval.specs.Reach.{is_among}
 
 abbrev pub AreDistinct : List (List ℕ) → Type 0
