@@ -16,3 +16,4 @@ pub mod Exports
 pub mod ListItems
 pub mod Assembly
 pub mod InstanceAssembly
+pub mod Report

@@ -21,6 +21,7 @@ use Rattle.cdk_meaning.specs.Meaning.{or_undefined, meaning}
 use Rattle.cdk_meaning.specs.Agreement.{seen, seen_truth}
 use Rattle.cdk_meaning.specs.Rendered.{Home, Local, Import, ImportList, Homes, rendered}
 use Rattle.cdk_meaning.specs.Kept.{TargetKept, AttributeKept, MentionKept, PseudosKept}
+use Rattle.cdk_meaning.specs.AssemblyKept.{guard_in}
 use Rattle.cdk_meaning.specs.Names.{AreDistinct, IsIn, Each}
 use Rattle.cdk_meaning.specs.ConditionsKept.{AreStackConditions}
 use Rattle.cdk_meaning.specs.Constructs.{ParameterForm, text_form, number_form, list_form, Element, parameter_of, resource_of, condition_of, mapping_of, other_element, Constructs, means_parameter, parameter_meaning, leaf_in, operand_source, source_at, condition_at, truth, presence_of, means_made, target_meaning, attribute_meaning, source_of}
@@ -114,14 +115,17 @@ module _ (v : Values) (cs : Constructs) (p : Parts) (target : ℕ → Home) (att
   apart : AreDistinct (map logical p.parameters ++ map logical p.resources)
   apart = subst AreDistinct (map_append logical p.parameters p.resources) w.targets_apart
 
+  pub logical_apart : AreDistinct (map logical p.resources)
+  logical_apart = distinct_back (map logical p.parameters) (map logical p.resources) apart
+
   parameter_found : (n : ℕ) → IsIn n p.parameters → get_member (cs.logical n) (section (codes "Parameters") template) ≡ Some (entry n)
   parameter_found n i = ap (get_member (cs.logical n)) w.parameters_stand ∙ found_at logical entry n p.parameters (distinct_front (map logical p.parameters) (map logical p.resources) apart) i
 
   parameter_lacked : (n : ℕ) → IsIn n p.resources → get_member (cs.logical n) (section (codes "Parameters") template) ≡ None
   parameter_lacked n i = ap (get_member (cs.logical n)) w.parameters_stand ∙ lacked logical entry (cs.logical n) p.parameters (apart_back (cs.logical n) (map logical p.parameters) (map logical p.resources) apart (is_named logical n p.resources i))
 
-  resource_found : (n : ℕ) → IsIn n p.resources → get_member (cs.logical n) (section (codes "Resources") template) ≡ Some (entry n)
-  resource_found n i = ap (get_member (cs.logical n)) w.resources_stand ∙ found_at logical entry n p.resources (distinct_back (map logical p.parameters) (map logical p.resources) apart) i
+  pub resource_found : (n : ℕ) → IsIn n p.resources → get_member (cs.logical n) (section (codes "Resources") template) ≡ Some (entry n)
+  resource_found n i = ap (get_member (cs.logical n)) w.resources_stand ∙ found_at logical entry n p.resources logical_apart i
 
   mapping_found : (n : ℕ) → IsIn n p.mappings → get_member (cs.logical n) (section (codes "Mappings") template) ≡ Some (entry n)
   mapping_found n i = ap (get_member (cs.logical n)) w.mappings_stand ∙ found_at logical entry n p.mappings w.mappings_apart i
@@ -195,6 +199,14 @@ module _ (v : Values) (cs : Constructs) (p : Parts) (target : ℕ → Home) (att
   presence_stands most None e l g i = ap (λ o. seen_truth (presence_by v stack template o)) g
   presence_stands most (Some c) e l g i = ap (λ o. seen_truth (presence_by v stack template o)) g ∙ condition_stands most c l i
 
+  -- a resource is made as its condition says
+  pub resource_guard : (most : ℕ) (el : Element) (e : Data) → length p.conditions ≤ most → IsResourceEntry logical p.conditions el e → seen_truth (presence v stack template e) ≡ presence_of (truth v cs most) (guard_in el)
+  resource_guard most (resource_of g) e l k = presence_stands most g e l k.0 k.1
+  resource_guard most (parameter_of f d) e l k = absurd k
+  resource_guard most (condition_of c) e l k = absurd k
+  resource_guard most (mapping_of d) e l k = absurd k
+  resource_guard most other_element e l k = absurd k
+
   made_ref : (most : ℕ) (n : List ℕ) (el : Element) (e : Data) → length p.conditions ≤ most → IsResourceEntry logical p.conditions el e → seen (made_text (presence v stack template e) (physical_text v stack n)) ≡ target_meaning v (truth v cs most) stack n el
   made_ref most n (resource_of g) e l k = seen_made (presence v stack template e) (physical_text v stack n) ∙ ap (λ b. means_made b (physical_text v stack n)) (presence_stands most g e l k.0 k.1)
   made_ref most n (parameter_of f d) e l k = absurd k
@@ -209,7 +221,7 @@ module _ (v : Values) (cs : Constructs) (p : Parts) (target : ℕ → Home) (att
   made_attribute most n a (mapping_of d) e l k = absurd k
   made_attribute most n a other_element e l k = absurd k
 
-  resource_entry : (n : ℕ) → IsIn n p.resources → IsResourceEntry logical p.conditions (cs.element n) (entry n)
+  pub resource_entry : (n : ℕ) → IsIn n p.resources → IsResourceEntry logical p.conditions (cs.element n) (entry n)
   resource_entry n i = each_at (λ m. IsResourceEntry logical p.conditions (cs.element m) (entry m)) n p.resources w.resources i
 
   pub attribute_stands : (most n : ℕ) (a : List ℕ) → length p.conditions ≤ most → IsIn n p.resources → seen (attribute_outcome v stack template (cs.logical n) a) ≡ attribute_meaning v (truth v cs most) (cs.stack n) (cs.logical n) a (cs.element n)

@@ -14,3 +14,4 @@ pub mod Constructs
 pub mod StackTemplate
 pub mod ListsKept
 pub mod AssemblyKept
+pub mod ReportKept
