@@ -1,6 +1,6 @@
 -- Two stacks at which the laws on assemblies and on lists that cross stacks meet their premises: the second imports an attribute, a list
 -- and a resource that isn't made from the first, and an export of another application.
-use Rattle.std.proofs.Common.{arith, ◌≡◌, ℕ, List, [], ◌∷◌, Some, None, refl, inl, inr}
+use Rattle.std.proofs.Common.{true, arith, ◌≡◌, ℕ, List, [], ◌∷◌, Some, None, refl, inl, inr}
 use Rattle.std.specs.Prelude.{◌==◌, bytes_eq, codes, if◌then◌else◌}
 use Rattle.serde_json.specs.Data.{Data, string, object, no_members, member}
 use Rattle.cdk_eval.specs.declared.fault.EvalFault.TheVariants.{NoExport}
@@ -9,8 +9,8 @@ use Rattle.cdk_eval.specs.Outcomes.{Value, Fault}
 use Rattle.cdk_eval.specs.Template.{outcome}
 use Rattle.cdk_eval.specs.Texts.{join_with, cut}
 use Rattle.cdk_eval.specs.Sections.{scope}
-use Rattle.cdk_eval.specs.Stack.{Stack}
-use Rattle.cdk_meaning.specs.Plain.{Plain, text, ref, get_att, concat, join, import_value, no_plains, plain, equals}
+use Rattle.cdk_eval.specs.Stack.{Stack, stack_outcome}
+use Rattle.cdk_meaning.specs.Plain.{Plain, text, ref, get_att, concat, join, import_value, no_plains, plain, no_fields, field, equals}
 use Rattle.cdk_meaning.specs.Source.{Undefined}
 use Rattle.cdk_meaning.specs.Meaning.{meaning}
 use Rattle.cdk_meaning.specs.Agreement.{Agrees}
@@ -19,6 +19,8 @@ use Rattle.cdk_meaning.specs.Constructs.{list_form, Element, parameter_of, resou
 use Rattle.cdk_meaning.specs.StackTemplate.{Parts, homes_of, IsTemplateOf}
 use Rattle.cdk_meaning.specs.ListsKept.{text_items}
 use Rattle.cdk_meaning.specs.AssemblyKept.{IsExported, targets_in, resources_in, exports_before}
+use Rattle.cdk_meaning.specs.ReportKept.{IsResourceTold, AreResourcesTold, MeansUndefined, IsOutputTold}
+use Rattle.cdk_meaning.proofs.Report.{resources_keep_meaning, outputs_keep_meaning}
 use Rattle.cdk_meaning.proofs.Lists.{cutting_undoes_joining}
 use Rattle.cdk_meaning.proofs.Assembly.{imports_stand, assemblies_keep_meaning}
 
@@ -43,11 +45,21 @@ logical n =
 abbrev constructs : Constructs
 constructs = record { element = element; stack = λ n. if n == 5 then codes "Shop" else codes "Net"; logical = logical }
 
+abbrev target : ℕ → Home
+target n = if n == 2 then ImportList (codes "Net:Subnets") else (if n == 4 then Import (codes "Net:Nat") else Local (logical n))
+
+abbrev attribute : ℕ → List ℕ → Home
+attribute n a = Import (codes "Net:Arn")
+
+abbrev written : Plain
+written = concat (plain (join (codes "+") (ref 2)) (plain (text (codes " ")) (plain (get_att 1 (codes "Arn")) (plain (text (codes " ")) (plain (import_value (codes "Other:Key")) (plain (text (codes " ")) (plain (ref 5) no_plains)))))))
+
 abbrev entry : ℕ → Data
 entry n =
     if n == 2 then object (member (codes "Default") (string (codes "a, b")) (member (codes "Type") (string (codes "CommaDelimitedList")) no_members))
     else (if n == 4 then object (member (codes "Condition") (string (codes "Never")) (member (codes "Type") (string (codes "AWS::EC2::NatGateway")) no_members))
-    else one (codes "Type") (string (codes "Own::Thing")))
+    else (if n == 5 then object (member (codes "Properties") (one (codes "Label") (rendered (homes_of constructs target attribute) written)) (member (codes "Type") (string (codes "Own::Thing")) no_members))
+    else one (codes "Type") (string (codes "Own::Thing"))))
 
 abbrev exported : List ℕ → Data
 exported name = one (codes "Name") (string name)
@@ -72,8 +84,15 @@ net = record {
       no_members))));
 }
 
+-- an output of the application: the resource that isn't made
+abbrev gate_output : Data
+gate_output = one (codes "Value") (rendered (homes_of constructs target attribute) (ref 4))
+
 abbrev shop : Stack
-shop = record { name = codes "Shop"; template = one (codes "Resources") (one (codes "App") (entry 5)) }
+shop = record {
+  name = codes "Shop";
+  template = object (member (codes "Outputs") (one (codes "Gate") gate_output) (member (codes "Resources") (one (codes "App") (entry 5)) no_members));
+}
 
 abbrev net_parts : Parts
 net_parts = record { parameters = 2 ∷ []; resources = 1 ∷ 4 ∷ []; conditions = 3 ∷ []; mappings = [] }
@@ -86,12 +105,6 @@ net_target n = Local (logical n)
 
 abbrev local_attribute : ℕ → List ℕ → Home
 local_attribute n a = Local (logical n)
-
-abbrev target : ℕ → Home
-target n = if n == 2 then ImportList (codes "Net:Subnets") else (if n == 4 then Import (codes "Net:Nat") else Local (logical n))
-
-abbrev attribute : ℕ → List ℕ → Home
-attribute n a = Import (codes "Net:Arn")
 
 net_template : IsTemplateOf constructs net_parts (homes_of constructs net_target local_attribute) entry (codes "Net") net.template
 net_template = record {
@@ -194,9 +207,6 @@ arn_exported = record {
 abbrev values : Values
 values = record { physical = λ s l. None; attribute = λ s l a. None; parameter = λ s l. None; pseudo = λ n. None; export = λ e. if bytes_eq e (codes "Other:Key") then Some (codes "key") else None }
 
-abbrev written : Plain
-written = concat (plain (join (codes "+") (ref 2)) (plain (text (codes " ")) (plain (get_att 1 (codes "Arn")) (plain (text (codes " ")) (plain (import_value (codes "Other:Key")) (plain (text (codes " ")) (plain (ref 5) no_plains)))))))
-
 pub written_agrees : Agrees (outcome (scope values (codes "Shop") shop.template (exports_before values (net ∷ []) shop [])) (rendered (homes_of constructs target attribute) written)) (meaning (source_of values constructs 1 (codes "Shop")) written)
 written_agrees =
     assemblies_keep_meaning values constructs 1 (net ∷ []) shop [] ((tt, (tt, (tt, tt))), tt) (refl, (refl, (refl, tt))) shop_parts target attribute entry shop_template (omega arith) written
@@ -223,3 +233,18 @@ three_items = cutting_undoes_joining (codes "a") ([] ∷ codes "b c" ∷ []) (re
 -- a `|` at an item's end moves into the next
 bar_moves : cut list_delimiter 0 [] (join_with list_delimiter (codes "a|" ∷ codes "b" ∷ [])) ≡ text_items (codes "a" ∷ codes "|b" ∷ [])
 bar_moves = refl
+
+-- ---- what the second stack comes to
+
+pub shop_resources : AreResourcesTold values constructs 1 (net ∷ []) shop [] shop_parts target attribute entry
+shop_resources = resources_keep_meaning values constructs 1 (net ∷ []) shop [] ((tt, (tt, (tt, tt))), tt) (refl, (refl, (refl, tt))) shop_parts target attribute entry shop_template (omega arith)
+
+pub app_told : IsResourceTold (source_of values constructs 1 (codes "Shop")) (Some true) (field (codes "Label") written no_fields) (codes "App") (stack_outcome values (exports_before values (net ∷ []) shop []) shop).resources
+app_told =
+    shop_resources.each 5 (inl refl) (field (codes "Label") written no_fields) (refl, (tt, (tt, (tt, (tt, (tt, (tt, (tt, tt))))))), tt) refl
+    ((tt, (refl, (refl, tt)), subnets_exported), (arn_exported, (refl, ((refl, inl refl), tt))))
+
+pub gate_told : IsOutputTold MeansUndefined (codes "Gate") (stack_outcome values (exports_before values (net ∷ []) shop []) shop).outputs
+gate_told =
+    outputs_keep_meaning values constructs 1 (net ∷ []) shop [] ((tt, (tt, (tt, tt))), tt) (refl, (refl, (refl, tt))) shop_parts target attribute entry shop_template (omega arith)
+    (codes "Gate") gate_output None (ref 4) refl refl tt tt refl tt ((tt, nat_exported), tt)

@@ -1,35 +1,35 @@
 -- What a stack comes to is what its constructs mean.
-use Rattle.std.proofs.Common.{◌≡◌, ◌≤◌, ℕ, suc, List, [], ◌∷◌, ◌++◌, length, Bool, true, false, Option, Some, None, refl, sym, ap, ◌∙◌, subst, inl, inr}
+use Rattle.std.proofs.Common.{◌≡◌, ◌≤◌, ℕ, suc, List, ◌∷◌, ◌++◌, length, Bool, true, false, Option, Some, None, refl, sym, ap, ◌∙◌, subst, inl, inr}
 use Rattle.std.proofs.lemmas.Map.Text.{is_eq-slice_cmp}
-use Rattle.std.specs.Prelude.{codes, bytes_eq, if◌then◌else◌, option_map, unwrap_or}
+use Rattle.std.specs.Prelude.{codes, option_map, unwrap_or}
 use Rattle.std.specs.Ordering.{nat_cmp, match_ordering, is_eq}
 use Rattle.std.specs.Cmp.Lexicographic.{slice_cmp}
 use Rattle.std.specs.declared.cmp.Ordering.{Ordering}
 use Rattle.std.specs.declared.cmp.Ordering.TheVariants.{Less, Equal, Greater}
 use Rattle.serde_json.specs.Data.{Data, null, boolean, number, string, array, object, Members, no_members, member}
-use Rattle.serde_json.specs.Find.{get, get_member}
+use Rattle.serde_json.specs.Find.{get_member}
 use Rattle.cdk_base.specs.Json.{text_of}
 use Rattle.cdk_eval.specs.Values.{Values}
 use Rattle.cdk_eval.specs.Outcomes.{Outcome, Value, Gone, Fault, Truth, Holds, Untold, OutputOutcome, OutputText, OutputNotMade, OutputFault}
 use Rattle.cdk_eval.specs.Template.{Scope, outcome, each_member}
 use Rattle.cdk_eval.specs.Conditions.{count}
 use Rattle.cdk_eval.specs.Sections.{section, presence, scope}
-use Rattle.cdk_eval.specs.Stack.{Stack, ResourceOutcome, properties_of, resource_at, resource_outcomes, some_text, text_outcome, value_and_name, made_output, output_value, output_at, output_outcomes, stack_outcome}
+use Rattle.cdk_eval.specs.Stack.{Stack, properties_of, resource_at, resource_outcomes, some_text, text_outcome, value_and_name, made_output, output_value, output_at, output_outcomes, stack_outcome}
 use Rattle.cdk_eval.specs.Assembly.{literal_names}
-use Rattle.cdk_meaning.specs.Plain.{Plain, IsWell, Fields, no_fields, field, FieldsAreWell}
+use Rattle.cdk_meaning.specs.Plain.{Fields, no_fields, field, FieldsAreWell}
 use Rattle.cdk_meaning.specs.Mentions.{mentions, field_mentions}
-use Rattle.cdk_meaning.specs.Source.{Meaning, Means, MeansNothing, Undefined}
+use Rattle.cdk_meaning.specs.Source.{Meaning}
 use Rattle.cdk_meaning.specs.Meaning.{text_in, meaning}
-use Rattle.cdk_meaning.specs.Agreement.{Agrees, seen, seen_truth}
+use Rattle.cdk_meaning.specs.Agreement.{seen, seen_truth}
 use Rattle.cdk_meaning.specs.Rendered.{Home, rendered, rendered_fields}
 use Rattle.cdk_meaning.specs.Names.{AreDistinct, IsIn, Each}
 use Rattle.cdk_meaning.specs.Constructs.{Constructs, Element, presence_of, truth, source_of}
-use Rattle.cdk_meaning.specs.StackTemplate.{Parts, IsResourceEntry, IsGuardIn, homes_of, IsTemplateOf}
+use Rattle.cdk_meaning.specs.StackTemplate.{Parts, IsResourceEntry, homes_of, IsTemplateOf}
 use Rattle.cdk_meaning.specs.AssemblyKept.{IsLiteralName, name_of, NamesAreLiteral, guard_in, exports_before, MentionIsThere}
-use Rattle.cdk_meaning.specs.ReportKept.{AgreeAll, IsResourceTold, AreResourcesTold, ResourcesKeepMeaning, means_told, output_meaning, seen_output, IsOutputTold, OutputsKeepMeaning}
+use Rattle.cdk_meaning.specs.ReportKept.{AgreeAll, IsResourceTold, AreResourcesTold, ResourcesKeepMeaning, means_told, output_meaning, seen_output, OutputsKeepMeaning}
 use Rattle.cdk_meaning.proofs.Collapse.{seen_agrees}
 use Rattle.cdk_meaning.proofs.Joins.{bytes_same}
-use Rattle.cdk_meaning.proofs.NameLists.{each_at, each_front, each_back}
+use Rattle.cdk_meaning.proofs.NameLists.{each_front, each_back}
 use Rattle.cdk_meaning.proofs.Sections.{as_many}
 use Rattle.cdk_meaning.proofs.Stack.{resource_found, resource_guard, resource_entry, presence_stands, logical_apart}
 use Rattle.cdk_meaning.proofs.Assembly.{assemblies_keep_meaning}
@@ -110,10 +110,11 @@ module _ (v : Values) (cs : Constructs) (most : ℕ) (before : List Stack) (s : 
 
   properties_agree : (fs : Fields) → FieldsAreWell fs → Each (MentionIsThere cs most (source_of v cs most s.name) before (literal_names (before ++ s ∷ later)) p target attribute) (field_mentions fs) → AgreeAll (source_of v cs most s.name) fs (each_member place (rendered_fields (homes_of cs target attribute) fs))
   properties_agree no_fields f k = tt
-  properties_agree (field n e fs) f k =
-      (refl,
-      assemblies_keep_meaning v cs most before s later w d p target attribute entry t l e f.1 (each_front (MentionIsThere cs most (source_of v cs most s.name) before (literal_names (before ++ s ∷ later)) p target attribute) (mentions e) (field_mentions fs) k),
-      properties_agree fs f.2 (each_back (MentionIsThere cs most (source_of v cs most s.name) before (literal_names (before ++ s ∷ later)) p target attribute) (mentions e) (field_mentions fs) k))
+  properties_agree (field n e fs) f k = (
+    refl,
+    assemblies_keep_meaning v cs most before s later w d p target attribute entry t l e f.1 (each_front (MentionIsThere cs most (source_of v cs most s.name) before (literal_names (before ++ s ∷ later)) p target attribute) (mentions e) (field_mentions fs) k),
+    properties_agree fs f.2 (each_back (MentionIsThere cs most (source_of v cs most s.name) before (literal_names (before ++ s ∷ later)) p target attribute) (mentions e) (field_mentions fs) k),
+  )
 
   resource_told : (n : ℕ) → IsIn n p.resources → (fs : Fields) → FieldsAreWell fs → section (codes "Properties") (entry n) ≡ rendered_fields (homes_of cs target attribute) fs
       → Each (MentionIsThere cs most (source_of v cs most s.name) before (literal_names (before ++ s ∷ later)) p target attribute) (field_mentions fs)
@@ -125,7 +126,7 @@ module _ (v : Values) (cs : Constructs) (most : ℕ) (before : List Stack) (s : 
         told = resource_in there place (cs.logical n) (entry n) (section (codes "Resources") s.template) (resource_found v cs p target attribute entry s.name s.template t n i);
         named = refl;
         made = made;
-        properties = λ yes'. subst (AgreeAll (source_of v cs most s.name) fs) (sym (made_properties (there (entry n)) (each_member place (section (codes "Properties") (entry n))) (made ∙ yes') ∙ ap (each_member place) same)) (properties_agree fs f k)
+        properties = λ yes'. subst (AgreeAll (source_of v cs most s.name) fs) (sym (made_properties (there (entry n)) (each_member place (section (codes "Properties") (entry n))) (made ∙ yes') ∙ ap (each_member place) same)) (properties_agree fs f k);
       }
     where
       at : (el : Element) (e : Data) → IsResourceEntry (λ c. cs.logical c) p.conditions el e → seen_truth (there e) ≡ presence_of (truth v cs most) (guard_in el)
@@ -136,9 +137,9 @@ module _ (v : Values) (cs : Constructs) (most : ℕ) (before : List Stack) (s : 
 
   all_told : AreResourcesTold v cs most before s later p target attribute entry
   all_told = record {
-      counted = resources_counted there place (section (codes "Resources") s.template) ∙ ap count t.resources_stand ∙ as_many (λ n. cs.logical n) entry p.resources (logical_apart v cs p target attribute entry s.name s.template t);
-      each = resource_told
-    }
+    counted = resources_counted there place (section (codes "Resources") s.template) ∙ ap count t.resources_stand ∙ as_many (λ n. cs.logical n) entry p.resources (logical_apart v cs p target attribute entry s.name s.template t);
+    each = resource_told;
+  }
 
 pub resources_keep_meaning : ResourcesKeepMeaning
 resources_keep_meaning v cs most before s later w d p target attribute entry t l = all_told v cs most before s later w d p target attribute entry t l
@@ -149,9 +150,9 @@ outputs_keep_meaning v cs most before s later w d p target attribute entry t l l
       own = output_at (presence v s.name s.template output) (scope v s.name s.template (exports_before v before s later)) output;
       told = output_in (presence v s.name s.template) (scope v s.name s.template (exports_before v before s later)) logical output (section (codes "Outputs") s.template) found;
       means = seen_made_output (presence v s.name s.template output) _ (presence_of (truth v cs most) guard) (meaning (source_of v cs most s.name) e)
-        (presence_stands v cs p target attribute entry s.name s.template t most guard output l guarded there_too)
-        (ap seen_output (named_output (scope v s.name s.template (exports_before v before s later)) (output_value (scope v s.name s.template (exports_before v before s later)) output) (name_of output) named)
-        ∙ ap (λ x. seen_output (text_outcome (outcome (scope v s.name s.template (exports_before v before s later)) (unwrap_or x null)))) value
-        ∙ seen_text_outcome (outcome (scope v s.name s.template (exports_before v before s later)) (rendered (homes_of cs target attribute) e))
-        ∙ ap (λ m. means_told (text_in m)) (seen_agrees (outcome (scope v s.name s.template (exports_before v before s later)) (rendered (homes_of cs target attribute) e)) (meaning (source_of v cs most s.name) e) (assemblies_keep_meaning v cs most before s later w d p target attribute entry t l e well k)))
+          (presence_stands v cs p target attribute entry s.name s.template t most guard output l guarded there_too)
+          (ap seen_output (named_output (scope v s.name s.template (exports_before v before s later)) (output_value (scope v s.name s.template (exports_before v before s later)) output) (name_of output) named)
+          ∙ ap (λ x. seen_output (text_outcome (outcome (scope v s.name s.template (exports_before v before s later)) (unwrap_or x null)))) value
+          ∙ seen_text_outcome (outcome (scope v s.name s.template (exports_before v before s later)) (rendered (homes_of cs target attribute) e))
+          ∙ ap (λ m. means_told (text_in m)) (seen_agrees (outcome (scope v s.name s.template (exports_before v before s later)) (rendered (homes_of cs target attribute) e)) (meaning (source_of v cs most s.name) e) (assemblies_keep_meaning v cs most before s later w d p target attribute entry t l e well k)));
     }

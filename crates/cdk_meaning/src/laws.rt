@@ -6,6 +6,7 @@ ghost use Rattle.cdk_meaning.specs.ConditionsKept.{ConditionsKeepTruth};
 ghost use Rattle.cdk_meaning.specs.Sections.{SectionsHold};
 ghost use Rattle.cdk_meaning.specs.StackTemplate.{StacksKeepMeaning};
 ghost use Rattle.cdk_meaning.specs.ListsKept.{CuttingUndoesJoining};
+ghost use Rattle.cdk_meaning.specs.ReportKept.{ResourcesKeepMeaning, OutputsKeepMeaning};
 ghost use Rattle.cdk_meaning.specs.AssemblyKept.{StacksFollow, ImportsStand, AssembliesKeepMeaning};
 
 /// An outcome agrees with a meaning exactly where both are the same once faults are told apart no more.
@@ -68,4 +69,16 @@ pub fn imports_stand()
 /// crosses stacks none may hold a `|`.
 pub fn assemblies_keep_meaning()
     ensures { AssembliesKeepMeaning }
+{}
+
+/// What a stack of an assembly comes to has each of its resources once, made as its condition means and not otherwise, and each
+/// property of a made one agrees with its meaning.
+pub fn resources_keep_meaning()
+    ensures { ResourcesKeepMeaning }
+{}
+
+/// And each output of the application: its text where it is made and its value means one, not made where its condition is
+/// false, and a fault exactly where its meaning is undefined.
+pub fn outputs_keep_meaning()
+    ensures { OutputsKeepMeaning }
 {}
