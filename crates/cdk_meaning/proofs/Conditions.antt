@@ -17,7 +17,7 @@ use Rattle.cdk_meaning.specs.Rendered.{Homes, rendered_condition}
 use Rattle.cdk_meaning.specs.Kept.{Keeps, PseudosKept}
 use Rattle.cdk_meaning.specs.Names.{AreDistinct, IsIn, Each}
 use Rattle.cdk_meaning.specs.Sections.{built}
-use Rattle.cdk_meaning.specs.ConditionsKept.{condition_section, operand_text, AreStackConditions, ConditionsKeepTruth}
+use Rattle.cdk_meaning.specs.ConditionsKept.{condition_section, operand_text, AreStackConditions, ConditionsKeepTruth, TruthIsFixed}
 use Rattle.cdk_meaning.proofs.Joins.{bytes_same}
 use Rattle.cdk_meaning.proofs.NameLists.{same_bytes, each_at, each_more}
 use Rattle.cdk_meaning.proofs.Sections.{found_at, as_many}
@@ -85,3 +85,6 @@ conditions_kept src h t conditions ns k n c l i =
     ap (λ m. seen_truth (json_truth_within (outcome t) (condition_section h conditions ns) m (h.condition c))) (counted src h t conditions ns k)
     ∙ kept_within src h t conditions ns k (length ns) c i
     ∙ bound_enough (operand_text src) conditions ns k.closed k.free (length ns) n c (omega arith) l i
+
+pub truth_is_fixed : TruthIsFixed
+truth_is_fixed src h t conditions ns k n m c ln lm i = bound_enough (operand_text src) conditions ns k.closed k.free n (suc m) c ln (omega arith) i

@@ -17,3 +17,4 @@ pub mod ListItems
 pub mod Assembly
 pub mod InstanceAssembly
 pub mod Report
+pub mod Examples

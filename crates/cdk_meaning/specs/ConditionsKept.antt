@@ -7,7 +7,7 @@ use Rattle.cdk_meaning.specs.Plain.{Plain, Condition, IsWellCondition}
 use Rattle.cdk_meaning.specs.Mentions.{operand_mentions, names_in}
 use Rattle.cdk_meaning.specs.Source.{Source}
 use Rattle.cdk_meaning.specs.Meaning.{text_in, meaning}
-use Rattle.cdk_meaning.specs.Truth.{truth_within, reaches}
+use Rattle.cdk_meaning.specs.Truth.{condition_meaning, truth_within, reaches}
 use Rattle.cdk_meaning.specs.Agreement.{seen_truth}
 use Rattle.cdk_meaning.specs.Rendered.{Homes, rendered_condition}
 use Rattle.cdk_meaning.specs.Kept.{Keeps, PseudosKept}
@@ -37,3 +37,10 @@ ConditionsKeepTruth =
     (src : ℕ → Source) (h : Homes) (t : Scope) (conditions : ℕ → Condition) (ns : List ℕ) → AreStackConditions src h t conditions ns
     → (n c : ℕ) → length ns ≤ n → IsIn c ns
     → seen_truth (named_truth (outcome t) (condition_section h conditions ns) (h.condition c)) ≡ truth_within (operand_text src) conditions n c
+
+-- And the truth of each is what its condition means by the truths of those that it names: the bound is no part of the meaning.
+abbrev pub TruthIsFixed : Type 0
+TruthIsFixed =
+    (src : ℕ → Source) (h : Homes) (t : Scope) (conditions : ℕ → Condition) (ns : List ℕ) → AreStackConditions src h t conditions ns
+    → (n m c : ℕ) → length ns ≤ n → length ns ≤ m → IsIn c ns
+    → truth_within (operand_text src) conditions n c ≡ condition_meaning (operand_text src c) (truth_within (operand_text src) conditions m) (conditions c)

@@ -2,7 +2,7 @@
 ghost use Rattle.cdk_meaning.specs.Agreement.{AgreementIsSeen};
 ghost use Rattle.cdk_meaning.specs.Literals.{LiteralsStand, LiteralsAreRendered};
 ghost use Rattle.cdk_meaning.specs.Kept.{RenderingKeepsMeaning};
-ghost use Rattle.cdk_meaning.specs.ConditionsKept.{ConditionsKeepTruth};
+ghost use Rattle.cdk_meaning.specs.ConditionsKept.{ConditionsKeepTruth, TruthIsFixed};
 ghost use Rattle.cdk_meaning.specs.Sections.{SectionsHold};
 ghost use Rattle.cdk_meaning.specs.StackTemplate.{StacksKeepMeaning};
 ghost use Rattle.cdk_meaning.specs.ListsKept.{CuttingUndoesJoining};
@@ -40,6 +40,12 @@ pub fn sections_hold()
 /// From the number of these conditions on, it makes no difference how often names are opened.
 pub fn conditions_keep_truth()
     ensures { ConditionsKeepTruth }
+{}
+
+/// The truth of such a condition is what its expression means by the truths of those that it names, whatever bound is set to
+/// the opening of names, if it is at least their number.
+pub fn truth_is_fixed()
+    ensures { TruthIsFixed }
 {}
 
 /// In a template that is built of a stack's constructs, under all values and exports, the outcome of a rendered expression
