@@ -9,7 +9,7 @@ use Rattle.cdk_eval.specs.Template.{outcome}
 use Rattle.serde_json.specs.Find.{get_member}
 use Rattle.cdk_eval.specs.Conditions.{named_truth}
 use Rattle.cdk_eval.specs.Sections.{operand_scope, scope}
-use Rattle.cdk_meaning.specs.Plain.{Plain, pseudo, region, text, list_of, ref, get_att, concat, join, choice, find_in_map, no_plains, plain, equals, negation, named}
+use Rattle.cdk_meaning.specs.Plain.{Plain, pseudo, region, text, list_of, object_of, no_fields, field, ref, get_att, concat, join, choice, find_in_map, no_plains, plain, equals, negation, named}
 use Rattle.cdk_meaning.specs.Meaning.{meaning}
 use Rattle.cdk_meaning.specs.Agreement.{Agrees, seen_truth}
 use Rattle.cdk_meaning.specs.Rendered.{Home, Local, Import, one, two, rendered}
@@ -18,6 +18,8 @@ use Rattle.cdk_meaning.specs.StackTemplate.{Parts, homes_of, IsTemplateOf}
 use Rattle.cdk_meaning.specs.Sections.{built}
 use Rattle.cdk_meaning.specs.ConditionsKept.{condition_section, AreStackConditions}
 use Rattle.cdk_meaning.specs.Source.{Means}
+use Rattle.cdk_base.specs.Pretty.{IsCanonical}
+use Rattle.cdk_meaning.proofs.Canonical.{rendered_is_canonical}
 use Rattle.cdk_meaning.proofs.Sections.{sections_hold}
 use Rattle.cdk_meaning.proofs.Conditions.{conditions_kept}
 use Rattle.cdk_meaning.proofs.Kept.{rendering_kept}
@@ -133,3 +135,10 @@ pub topic_agrees : Agrees (outcome (scope no_values (codes "Shop") template expo
 topic_agrees =
     rendering_kept (source_of no_values constructs 2 (codes "Shop")) (homes_of constructs target attribute) (scope no_values (codes "Shop") template exports) (pseudos_kept no_values constructs (codes "Shop") template 2 exports)
     (concat (plain (ref 7) (plain (pseudo region) no_plains))) (tt, (tt, tt)) (refl, tt)
+
+-- and an object with two keys is rendered with its keys in order
+pub tags_canonical : IsCanonical (rendered (homes_of constructs target attribute) (object_of (field (codes "Key") written (field (codes "Value") (ref 7) no_fields))))
+tags_canonical =
+    rendered_is_canonical (homes_of constructs target attribute) (object_of (field (codes "Key") written (field (codes "Value") (ref 7) no_fields)))
+    (refl, (tt, (tt, ((tt, tt), ((tt, tt), ((tt, (tt, (tt, tt))), tt))))), (refl, tt, tt))
+    ((refl, tt), (tt, (tt, ((tt, tt), ((tt, tt), ((tt, (tt, (tt, tt))), tt))))), (tt, tt, tt))

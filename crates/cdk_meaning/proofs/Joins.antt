@@ -69,6 +69,14 @@ joined_together (Some ds) = go (item_texts ds)
 pub bytes_same : (k l : List ℕ) → bytes_eq k l ≡ true → k ≡ l
 bytes_same k l h = search (rules, bytes_eq-Decides)
 
+key_is : (k : List ℕ) (es ds : Items) (b : Bool) → bytes_eq k (codes "Fn::Join") ≡ b → (if b then Some es else None) ≡ Some ds → object (member k (array (item (string []) (item (array es) no_items))) no_members) ≡ join_json [] (array ds)
+key_is k es ds true e h = let k_is : k ≡ codes "Fn::Join" = bytes_same k (codes "Fn::Join") e in cc
+key_is k es ds false e h = cc
+
+pub is_joined : (d : Data) (ds : Items) → joined_in d ≡ Some ds → d ≡ join_json [] (array ds)
+is_joined (object (member k (array (item (string []) (item (array es) no_items))) no_members)) ds h = key_is k es ds (bytes_eq k (codes "Fn::Join")) refl h
+is_joined _ ds h = cc
+
 module _ (t : Scope) where
   -- the text of items one after another
   abbrev pub texts : Items → Option (List ℕ)
@@ -90,14 +98,6 @@ module _ (t : Scope) where
   texts_and : (ds es : Items) → texts (and_items ds es) ≡ then_text (texts ds) (texts es)
   texts_and no_items es = sym (empty_then (texts es))
   texts_and (item d ds) es = ap (then_text (piece (seen (outcome t d)))) (texts_and ds es) ∙ sym (then_assoc _ (texts ds) (texts es))
-
-  key_is : (k : List ℕ) (es ds : Items) (b : Bool) → bytes_eq k (codes "Fn::Join") ≡ b → (if b then Some es else None) ≡ Some ds → object (member k (array (item (string []) (item (array es) no_items))) no_members) ≡ join_json [] (array ds)
-  key_is k es ds true e h = let k_is : k ≡ codes "Fn::Join" = bytes_same k (codes "Fn::Join") e in cc
-  key_is k es ds false e h = cc
-
-  is_joined : (d : Data) (ds : Items) → joined_in d ≡ Some ds → d ≡ join_json [] (array ds)
-  is_joined (object (member k (array (item (string []) (item (array es) no_items))) no_members)) ds h = key_is k es ds (bytes_eq k (codes "Fn::Join")) refl h
-  is_joined _ ds h = cc
 
   splice_one : (o : Option Items) (d : Data) (es : Items) → joined_in d ≡ o → texts (spliced_onto o d es) ≡ then_text (piece (seen (outcome t d))) (texts es)
   splice_one None d es h = refl

@@ -18,3 +18,4 @@ pub mod Assembly
 pub mod InstanceAssembly
 pub mod Report
 pub mod Examples
+pub mod Canonical

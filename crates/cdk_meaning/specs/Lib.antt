@@ -15,3 +15,4 @@ pub mod StackTemplate
 pub mod ListsKept
 pub mod AssemblyKept
 pub mod ReportKept
+pub mod Canonical

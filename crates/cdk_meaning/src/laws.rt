@@ -1,4 +1,5 @@
 // The laws between the meaning of plain expressions and the outcomes of templates.
+ghost use Rattle.cdk_meaning.specs.Canonical.{RenderedIsCanonical, RenderedConditionIsCanonical};
 ghost use Rattle.cdk_meaning.specs.Agreement.{AgreementIsSeen};
 ghost use Rattle.cdk_meaning.specs.Literals.{LiteralsStand, LiteralsAreRendered};
 ghost use Rattle.cdk_meaning.specs.Kept.{RenderingKeepsMeaning};
@@ -29,6 +30,16 @@ pub fn literals_are_rendered()
 /// expression's meaning: for every form, with joins that are spliced and merged, and with parts that are gone.
 pub fn rendering_keeps_meaning()
     ensures { RenderingKeepsMeaning }
+{}
+
+/// A rendered expression has whole numbers of 64 bits and keys in order, where the expression has: so it reads back from its text.
+pub fn rendered_is_canonical()
+    ensures { RenderedIsCanonical }
+{}
+
+/// The same of a rendered condition.
+pub fn rendered_condition_is_canonical()
+    ensures { RenderedConditionIsCanonical }
 {}
 
 /// In a section that is built of constructs with different names, each is found by its name and no other name is there.
