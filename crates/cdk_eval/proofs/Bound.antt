@@ -1,6 +1,6 @@
 -- The number of a template's conditions is bound enough for the truth of each.
-use Rattle.std.proofs.Common.{◌≡◌, ℕ, zero, suc, ◌+◌, ◌≤◌, List, [], ◌∷◌, length, Bool, true, false, ◌&&◌, ◌||◌, Option, Some, None, refl, sym, subst, ap, ◌∙◌, inl, arith}
-use Rattle.std.specs.Prelude.{bytes_eq, codes, if◌then◌else◌}
+use Rattle.std.proofs.Common.{◌≡◌, ℕ, zero, suc, ◌+◌, ◌≤◌, List, [], ◌∷◌, length, Bool, true, false, ◌&&◌, ◌||◌, Option, Some, None, refl, sym, subst, ap, ◌∙◌, inl, inr, arith}
+use Rattle.std.specs.Prelude.{◌⊎◌, bytes_eq, codes, if◌then◌else◌}
 use Rattle.std.specs.Ordering.{nat_cmp, match_ordering, is_eq}
 use Rattle.std.specs.declared.cmp.Ordering.{Ordering}
 use Rattle.std.specs.declared.cmp.Ordering.TheVariants.{Less, Equal, Greater}
@@ -10,9 +10,11 @@ use Rattle.serde_json.specs.Data.{Data, null, boolean, number, string, array, ob
 use Rattle.serde_json.specs.Find.{get_member}
 use Rattle.cdk_eval.specs.declared.fault.EvalFault.TheVariants.{BadIntrinsic, ConditionLoop}
 use Rattle.cdk_eval.specs.Outcomes.{Outcome, Truth, Untold}
-use Rattle.cdk_eval.specs.Reach.{is_among}
-use Rattle.cdk_eval.specs.Conditions.{is_few, all_hold, few_form, not_form, name_form, equals_form, truth_of, single_truth, part_truths, item_truths, one_name, item_count, has_items, is_one, names_in, single_names, part_names, item_names, names_of, count, is_loop, found_truth, truth_within, BoundSuffices, NamesAreOpened}
-use Rattle.cdk_eval.proofs.Reach.{IsIn, in_front, in_back, in_when_among, same_bytes, bytes_same, IsPath, path_returns}
+use Rattle.cdk_eval.specs.Reach.{is_among, comes_to}
+use Rattle.cdk_eval.specs.Conditions.{is_few, all_hold, few_form, not_form, name_form, equals_form, truth_of, single_truth, part_truths, item_truths, one_name, item_count, has_items, is_one, names_in, single_names, part_names, item_names, names_of, count, is_loop, found_truth, truth_within, BoundSuffices, LoopsAreFound, NamesAreOpened}
+use Rattle.cdk_eval.proofs.Reach.{IsIn, in_front, in_back, in_when_among, bytes_same, IsPath, path_returns}
+use Rattle.cdk_eval.proofs.Unseen.{unseen, unseen_all, unseen_less}
+use Rattle.cdk_eval.proofs.Found.{found_within}
 
 -- ---- a form has one truth under two truths of names that are alike at its own names
 
@@ -90,56 +92,42 @@ module _ (op : Data → Outcome) (f g : List ℕ → Truth) where
         ap (λ t. t ∷ item_truths op f ds) (truth_same d (λ n i. h n (in_front n (names_in d) (item_names ds) i)))
         ∙ ap (λ ts. truth_of op g d ∷ ts) (items_same ds (λ n i. h n (in_back n (names_in d) (item_names ds) i)))
 
--- ---- the conditions that no list of names has
+-- ---- the names of the conditions
 
-abbrev one_if_not : Bool → ℕ → ℕ
-one_if_not b n = if b then n else suc n
+abbrev keys : Members → List (List ℕ)
+keys no_members = []
+keys (member k d ms) = k ∷ keys ms
 
-abbrev unseen : List (List ℕ) → Members → ℕ
-unseen ns no_members = 0
-unseen ns (member k d ms) = one_if_not (is_among k ns) (unseen ns ms)
+key_count : (cs : Members) → length (keys cs) ≡ count cs
+key_count no_members = refl
+key_count (member k d ms) = ap suc (key_count ms)
 
-unseen_all : (cs : Members) → unseen [] cs ≡ count cs
-unseen_all no_members = refl
-unseen_all (member k d ms) = ap suc (unseen_all ms)
-
-fewer_at : (a b : Bool) (x y : ℕ) → x ≤ y → one_if_not (a || b) x ≤ one_if_not b y
-fewer_at true true x y h = h
-fewer_at true false x y h = omega (arith, h)
-fewer_at false true x y h = h
-fewer_at false false x y h = omega (arith, h)
-
-less_at : (a b : Bool) (x y : ℕ) → suc x ≤ y → suc (one_if_not (a || b) x) ≤ one_if_not b y
-less_at true true x y h = h
-less_at true false x y h = omega (arith, h)
-less_at false true x y h = h
-less_at false false x y h = omega (arith, h)
-
-unseen_more : (c : List ℕ) (ns : List (List ℕ)) (cs : Members) → unseen (c ∷ ns) cs ≤ unseen ns cs
-unseen_more c ns no_members = omega arith
-unseen_more c ns (member k d ms) = fewer_at (bytes_eq k c) (is_among k ns) (unseen (c ∷ ns) ms) (unseen ns ms) (unseen_more c ns ms)
-
-here_less : (c k : List ℕ) (ns : List (List ℕ)) (x y : ℕ) → c ≡ k → is_among c ns ≡ false → x ≤ y → suc (one_if_not (is_among k (c ∷ ns)) x) ≤ one_if_not (is_among k ns) y
-here_less c k ns x y e new h =
-    let at_key : bytes_eq k c ≡ true = ap (bytes_eq k) e ∙ same_bytes k in
-    let new_key : is_among k ns ≡ false = ap (λ n. is_among n ns) (sym e) ∙ new in
-    rw (at_key, new_key) (omega (arith, h))
-
-unseen_less : (c : List ℕ) (ns : List (List ℕ)) (cs : Members) (d : Data) → get_member c cs ≡ Some d → is_among c ns ≡ false → suc (unseen (c ∷ ns) cs) ≤ unseen ns cs
-unseen_less c ns no_members d found new = cc
-unseen_less c ns (member k e ms) d found new = at (slice_cmp nat_cmp c k) refl found (λ later. less_at (bytes_eq k c) (is_among k ns) (unseen (c ∷ ns) ms) (unseen ns ms) (unseen_less c ns ms d later new))
+found_or_not : (c : List ℕ) (cs : Members) → IsIn c (keys cs) ⊎ (get_member c cs ≡ None)
+found_or_not c no_members = inr refl
+found_or_not c (member k e ms) = at (slice_cmp nat_cmp c k) refl (found_or_not c ms)
   where
-    at : (o : Ordering) → slice_cmp nat_cmp c k ≡ o → match_ordering o (get_member c ms) (Some e) (get_member c ms) ≡ Some d
-        → (get_member c ms ≡ Some d → suc (unseen (c ∷ ns) (member k e ms)) ≤ unseen ns (member k e ms)) → suc (unseen (c ∷ ns) (member k e ms)) ≤ unseen ns (member k e ms)
-    at Less is found later = later found
-    at Equal is found later = here_less c k ns (unseen (c ∷ ns) ms) (unseen ns ms) (bytes_same c k (sym (is_eq-slice_cmp c k) ∙ ap is_eq is)) new (unseen_more c ns ms)
-    at Greater is found later = later found
+    at : (o : Ordering) → slice_cmp nat_cmp c k ≡ o → IsIn c (keys ms) ⊎ (get_member c ms ≡ None) → IsIn c (keys (member k e ms)) ⊎ (match_ordering o (get_member c ms) (Some e) (get_member c ms) ≡ None)
+    at Equal is later = inl (inl (sym (bytes_same c k (sym (is_eq-slice_cmp c k) ∙ ap is_eq is))))
+    at Less is (inl i) = inl (inr i)
+    at Less is (inr e) = inr e
+    at Greater is (inl i) = inl (inr i)
+    at Greater is (inr e) = inr e
+
+key_in : (c : List ℕ) (cs : Members) (d : Data) → get_member c cs ≡ Some d → IsIn c (keys cs)
+key_in c cs d found = at (found_or_not c cs)
+  where
+    at : IsIn c (keys cs) ⊎ (get_member c cs ≡ None) → IsIn c (keys cs)
+    at (inl i) = i
+    at (inr e) = cc
 
 -- ---- the bound
 
+abbrev leads_of : Members → List ℕ → List (List ℕ)
+leads_of cs c = names_of (get_member c cs)
+
 module _ (op : Data → Outcome) (cs : Members) where
   abbrev leads : List ℕ → List (List ℕ)
-  leads c = names_of (get_member c cs)
+  leads = leads_of cs
 
   -- a condition that doesn't reach itself is not on its own way
   new_on_path : (c : List ℕ) (ns : List (List ℕ)) → is_loop cs c ≡ false → IsPath leads ns c → length ns ≤ count cs → is_among c ns ≡ false
@@ -151,10 +139,10 @@ module _ (op : Data → Outcome) (cs : Members) where
 
   record Stands (ns : List (List ℕ)) (c : List ℕ) : Type 0 where
     path : IsPath leads ns c
-    total : length ns + unseen ns cs ≤ count cs
+    total : length ns + unseen ns (keys cs) ≤ count cs
 
-  fewer_left : (c : List ℕ) (ns : List (List ℕ)) (d : Data) → Stands ns c → get_member c cs ≡ Some d → is_loop cs c ≡ false → suc (unseen (c ∷ ns) cs) ≤ unseen ns cs
-  fewer_left c ns d s found no_loop = unseen_less c ns cs d found (new_on_path c ns no_loop s.path (omega (arith, s.total)))
+  fewer_left : (c : List ℕ) (ns : List (List ℕ)) (d : Data) → Stands ns c → get_member c cs ≡ Some d → is_loop cs c ≡ false → suc (unseen (c ∷ ns) (keys cs)) ≤ unseen ns (keys cs)
+  fewer_left c ns d s found no_loop = unseen_less c ns (keys cs) (key_in c cs d found) (new_on_path c ns no_loop s.path (omega (arith, s.total)))
 
   next_stands : (c e : List ℕ) (ns : List (List ℕ)) (d : Data) → Stands ns c → get_member c cs ≡ Some d → is_loop cs c ≡ false → IsIn e (names_in d) → Stands (c ∷ ns) e
   next_stands c e ns d s found no_loop i = record { path = (subst (λ o. IsIn e (names_of o)) (sym found) i, s.path); total = omega (arith, s.total, fewer_left c ns d s found no_loop) }
@@ -163,7 +151,7 @@ module _ (op : Data → Outcome) (cs : Members) where
   opened f c d = if is_loop cs c then Untold ConditionLoop else truth_of op f d
 
   -- no condition is left to be opened
-  none_left : (f : List ℕ → Truth) (c : List ℕ) (ns : List (List ℕ)) → Stands ns c → unseen ns cs ≤ 0 → (o : Option Data) → get_member c cs ≡ o → found_truth (λ d. Untold ConditionLoop) o ≡ found_truth (opened f c) o
+  none_left : (f : List ℕ → Truth) (c : List ℕ) (ns : List (List ℕ)) → Stands ns c → unseen ns (keys cs) ≤ 0 → (o : Option Data) → get_member c cs ≡ o → found_truth (λ d. Untold ConditionLoop) o ≡ found_truth (opened f c) o
   none_left f c ns s h None found = refl
   none_left f c ns s h (Some d) found = at (is_loop cs c) refl
     where
@@ -172,7 +160,7 @@ module _ (op : Data → Outcome) (cs : Members) where
       at false e = absurd (omega (arith, h, fewer_left c ns d s found e))
 
   both_open : (f g : List ℕ → Truth) (c : List ℕ) (ns : List (List ℕ)) → Stands ns c
-      → ((e : List ℕ) → Stands (c ∷ ns) e → suc (unseen (c ∷ ns) cs) ≤ unseen ns cs → f e ≡ g e)
+      → ((e : List ℕ) → Stands (c ∷ ns) e → suc (unseen (c ∷ ns) (keys cs)) ≤ unseen ns (keys cs) → f e ≡ g e)
       → (o : Option Data) → get_member c cs ≡ o → found_truth (opened f c) o ≡ found_truth (opened g c) o
   both_open f g c ns s later None found = refl
   both_open f g c ns s later (Some d) found = at (is_loop cs c) refl
@@ -181,7 +169,7 @@ module _ (op : Data → Outcome) (cs : Members) where
       at true e = refl
       at false e = truth_same op f g d (λ n i. later n (next_stands c n ns d s found e i) (fewer_left c ns d s found e))
 
-  any_bound : (n m : ℕ) (ns : List (List ℕ)) (c : List ℕ) → Stands ns c → unseen ns cs ≤ n → unseen ns cs ≤ m → truth_within op cs n c ≡ truth_within op cs m c
+  any_bound : (n m : ℕ) (ns : List (List ℕ)) (c : List ℕ) → Stands ns c → unseen ns (keys cs) ≤ n → unseen ns (keys cs) ≤ m → truth_within op cs n c ≡ truth_within op cs m c
   any_bound zero zero ns c s h i = refl
   any_bound zero (suc m) ns c s h i = none_left (truth_within op cs m) c ns s h (get_member c cs) refl
   any_bound (suc n) zero ns c s h i = sym (none_left (truth_within op cs n) c ns s i (get_member c cs) refl)
@@ -189,10 +177,19 @@ module _ (op : Data → Outcome) (cs : Members) where
       both_open (truth_within op cs n) (truth_within op cs m) c ns s (λ e t less. any_bound n m (c ∷ ns) e t (omega (arith, h, less)) (omega (arith, i, less))) (get_member c cs) refl
 
   at_first : (c : List ℕ) → Stands [] c
-  at_first c = record { path = tt; total = omega (arith, unseen_all cs) }
+  at_first c = record { path = tt; total = omega (arith, unseen_all (keys cs), key_count cs) }
 
 pub bound_suffices : BoundSuffices
-bound_suffices op cs n c h = any_bound op cs n (count cs) [] c (at_first op cs c) (omega (arith, unseen_all cs, h)) (omega (arith, unseen_all cs))
+bound_suffices op cs n c h = any_bound op cs n (count cs) [] c (at_first op cs c) (omega (arith, unseen_all (keys cs), key_count cs, h)) (omega (arith, unseen_all (keys cs), key_count cs))
+
+pub loops_found : LoopsAreFound
+loops_found cs n c way = at (found_within (leads_of cs) c (keys cs) others n c way)
+  where
+    others : (d : List ℕ) → IsIn d (keys cs) ⊎ (leads_of cs d ≡ [])
+    others d = elim (found_or_not d cs) [ inl i ↦ inl i | inr e ↦ inr (ap names_of e) ]
+
+    at : comes_to (leads_of cs) (length (keys cs)) c c ≡ true → is_loop cs c ≡ true
+    at t = ap (λ n. comes_to (leads_of cs) n c c) (sym (key_count cs)) ∙ t
 
 pub names_opened : NamesAreOpened
 names_opened op cs c d found no_loop =

@@ -102,6 +102,10 @@ operand_gone : Tells "{\"Parameters\":{\"P\":{\"Type\":\"String\",\"Default\":\"
 unfolding serde_json_on_literals digits
 operand_gone = refl
 
+operand_gone_before_a_fault : Tells "{\"Parameters\":{\"P\":{\"Type\":\"String\",\"Default\":\"dev\"},\"L\":{\"Type\":\"CommaDelimitedList\",\"Default\":\"a\"}},\"Resources\":{\"R\":{\"Type\":\"T\"}},\"Mappings\":{\"M\":{\"x\":{\"y\":\"leaf\"}}},\"Conditions\":{\"C\":{\"Fn::Equals\":[{\"Ref\":\"AWS::NoValue\"},{\"Ref\":\"Nope\"}]}}}" "UnknownName"
+unfolding serde_json_on_literals digits
+operand_gone_before_a_fault = refl
+
 operand_gone_item : Tells "{\"Parameters\":{\"P\":{\"Type\":\"String\",\"Default\":\"dev\"},\"L\":{\"Type\":\"CommaDelimitedList\",\"Default\":\"a\"}},\"Resources\":{\"R\":{\"Type\":\"T\"}},\"Mappings\":{\"M\":{\"x\":{\"y\":\"leaf\"}}},\"Conditions\":{\"C\":{\"Fn::Equals\":[{\"Fn::Join\":[\"\",[\"a\",{\"Ref\":\"AWS::NoValue\"}]]},\"a\"]}}}" "true"
 unfolding serde_json_on_literals digits
 operand_gone_item = refl

@@ -1,9 +1,13 @@
 -- Worked readings of files: the first that misses its form, and where. By computation.
-use Rattle.std.proofs.Common.{refl}
+use Rattle.std.proofs.Common.{◌≡◌, refl}
 use Rattle.std.specs.Fmt.{digits}
 use Rattle.serde_json.proofs.OnLiterals.{serde_json_on_literals}
 use Rattle.std.specs.Prelude.{[], ◌∷◌}
-use Rattle.cdk_eval.proofs.Shown.{Reports}
+use Rattle.std.proofs.Common.{None}
+use Rattle.std.specs.Prelude.{codes}
+use Rattle.serde_json.specs.Data.{Data}
+use Rattle.cdk_eval.specs.Manifest.{stacks_of, cyclic, in_order, ids, AreApart}
+use Rattle.cdk_eval.proofs.Shown.{Reports, json}
 
 -- A manifest that is no JSON.
 manifest_cut_short : Reports
@@ -85,6 +89,38 @@ escaped_pointer : Reports
 unfolding serde_json_on_literals digits
 escaped_pointer = refl
 
+-- An artifact without a type.
+artifact_without_type : Reports
+    (("out/manifest.json", "{\"artifacts\":{\"A\":{\"properties\":{}}},\"version\":\"36.0.0\"}") ∷ [])
+    "{}"
+    "AsmShape out/manifest.json /artifacts/A"
+unfolding serde_json_on_literals digits
+artifact_without_type = refl
+
+-- An empty file name.
+empty_file_name : Reports
+    (("out/manifest.json", "{\"artifacts\":{\"A\":{\"type\":\"aws:cloudformation:stack\",\"properties\":{\"templateFile\":\"\"}}},\"version\":\"36.0.0\"}") ∷ [])
+    "{}"
+    "AsmShape out/manifest.json /artifacts/A/properties/templateFile"
+unfolding serde_json_on_literals digits
+empty_file_name = refl
+
+-- A stack's name is a text.
+wrong_stack_name : Reports
+    (("out/manifest.json", "{\"artifacts\":{\"A\":{\"type\":\"aws:cloudformation:stack\",\"properties\":{\"templateFile\":\"A.template.json\",\"stackName\":1}}},\"version\":\"36.0.0\"}") ∷ [])
+    "{}"
+    "AsmShape out/manifest.json /artifacts/A/properties/stackName"
+unfolding serde_json_on_literals digits
+wrong_stack_name = refl
+
+-- The directory itself.
+directory_itself : Reports
+    (("out/manifest.json", "{\"artifacts\":{\"A\":{\"type\":\"cdk:cloud-assembly\",\"properties\":{\"directoryName\":\".\"}}},\"version\":\"36.0.0\"}") ∷ [])
+    "{}"
+    "AsmShape out/manifest.json /artifacts/A/properties/directoryName"
+unfolding serde_json_on_literals digits
+directory_itself = refl
+
 -- A directory above.
 directory_above : Reports
     (("out/manifest.json", "{\"artifacts\":{\"A\":{\"type\":\"cdk:cloud-assembly\",\"properties\":{\"directoryName\":\"..\"}}},\"version\":\"36.0.0\"}") ∷ [])
@@ -116,6 +152,54 @@ null_in_a_template : Reports
     "AsmShape out/S.template.json /Conditions"
 unfolding serde_json_on_literals digits
 null_in_a_template = refl
+
+-- A condition is an object.
+condition_of_a_text : Reports
+    (("out/manifest.json", "{\"artifacts\":{\"S\":{\"type\":\"aws:cloudformation:stack\",\"properties\":{\"templateFile\":\"S.template.json\"}}},\"version\":\"36.0.0\"}") ∷ ("out/S.template.json", "{\"Conditions\":{\"C\":\"x\"}}") ∷ [])
+    "{}"
+    "AsmShape out/S.template.json /Conditions/C"
+unfolding serde_json_on_literals digits
+condition_of_a_text = refl
+
+-- A missing type of a resource.
+resource_without_type : Reports
+    (("out/manifest.json", "{\"artifacts\":{\"S\":{\"type\":\"aws:cloudformation:stack\",\"properties\":{\"templateFile\":\"S.template.json\"}}},\"version\":\"36.0.0\"}") ∷ ("out/S.template.json", "{\"Resources\":{\"R\":{\"Properties\":1}}}") ∷ [])
+    "{}"
+    "AsmShape out/S.template.json /Resources/R"
+unfolding serde_json_on_literals digits
+resource_without_type = refl
+
+-- A resource's condition is a name.
+wrong_condition_of_a_resource : Reports
+    (("out/manifest.json", "{\"artifacts\":{\"S\":{\"type\":\"aws:cloudformation:stack\",\"properties\":{\"templateFile\":\"S.template.json\"}}},\"version\":\"36.0.0\"}") ∷ ("out/S.template.json", "{\"Resources\":{\"R\":{\"Type\":\"T\",\"Condition\":{\"Fn::Equals\":[1,1]}}}}") ∷ [])
+    "{}"
+    "AsmShape out/S.template.json /Resources/R/Condition"
+unfolding serde_json_on_literals digits
+wrong_condition_of_a_resource = refl
+
+-- An output's condition is a name.
+wrong_condition_of_an_output : Reports
+    (("out/manifest.json", "{\"artifacts\":{\"S\":{\"type\":\"aws:cloudformation:stack\",\"properties\":{\"templateFile\":\"S.template.json\"}}},\"version\":\"36.0.0\"}") ∷ ("out/S.template.json", "{\"Outputs\":{\"O\":{\"Value\":1,\"Condition\":true}}}") ∷ [])
+    "{}"
+    "AsmShape out/S.template.json /Outputs/O/Condition"
+unfolding serde_json_on_literals digits
+wrong_condition_of_an_output = refl
+
+-- A missing type of a parameter.
+parameter_without_type : Reports
+    (("out/manifest.json", "{\"artifacts\":{\"S\":{\"type\":\"aws:cloudformation:stack\",\"properties\":{\"templateFile\":\"S.template.json\"}}},\"version\":\"36.0.0\"}") ∷ ("out/S.template.json", "{\"Parameters\":{\"P\":{\"Default\":\"x\"}}}") ∷ [])
+    "{}"
+    "AsmShape out/S.template.json /Parameters/P"
+unfolding serde_json_on_literals digits
+parameter_without_type = refl
+
+-- Other members are passed over.
+passed_over : Reports
+    (("out/manifest.json", "{\"artifacts\":{\"S\":{\"type\":\"aws:cloudformation:stack\",\"properties\":{\"templateFile\":\"S.template.json\"}}},\"version\":\"36.0.0\"}") ∷ ("out/S.template.json", "{\"Metadata\":1,\"Transform\":null,\"Outputs\":{},\"Resources\":{\"R\":{\"Type\":\"T\",\"DependsOn\":7}}}") ∷ [])
+    "{}"
+    "stack S\nresource R\n"
+unfolding serde_json_on_literals digits
+passed_over = refl
 
 -- A missing value of an output.
 output_without_value : Reports
@@ -228,3 +312,20 @@ first_wrong_by_bytes : Reports
     "ValuesShape /exports/E"
 unfolding serde_json_on_literals digits
 first_wrong_by_bytes = refl
+
+-- ---- a manifest that meets the premises of the law on orders
+
+abbrev manifest : Data
+manifest = json "{\"artifacts\":{\"A\":{\"type\":\"aws:cloudformation:stack\",\"properties\":{\"templateFile\":\"A.template.json\"},\"dependencies\":[\"C\"]},\"B\":{\"type\":\"aws:cloudformation:stack\",\"properties\":{\"templateFile\":\"B.template.json\"},\"dependencies\":[\"D\",\"Tree\"]},\"C\":{\"type\":\"aws:cloudformation:stack\",\"properties\":{\"templateFile\":\"C.template.json\"}},\"D\":{\"type\":\"aws:cloudformation:stack\",\"properties\":{\"templateFile\":\"D.template.json\"},\"dependencies\":[\"A\"]}},\"version\":\"36.0.0\"}"
+
+apart : AreApart (stacks_of manifest)
+unfolding serde_json_on_literals digits
+apart = (refl, (refl, (refl, (refl, tt))))
+
+no_cycle_there : cyclic (stacks_of manifest) ≡ None
+unfolding serde_json_on_literals digits
+no_cycle_there = refl
+
+in_this_order : ids (in_order (stacks_of manifest)) ≡ codes "C" ∷ codes "A" ∷ codes "D" ∷ codes "B" ∷ []
+unfolding serde_json_on_literals digits
+in_this_order = refl

@@ -138,6 +138,14 @@ ref_account : Gives "{\"Ref\":\"AWS::AccountId\"}" "\"111111111111\""
 unfolding serde_json_on_literals digits
 ref_account = refl
 
+ref_partition : Gives "{\"Ref\":\"AWS::Partition\"}" "\"aws\""
+unfolding serde_json_on_literals digits
+ref_partition = refl
+
+ref_url_suffix : Gives "{\"Ref\":\"AWS::URLSuffix\"}" "\"amazonaws.com\""
+unfolding serde_json_on_literals digits
+ref_url_suffix = refl
+
 ref_stack_name : Gives "{\"Ref\":\"AWS::StackName\"}" "\"S\""
 unfolding serde_json_on_literals digits
 ref_stack_name = refl

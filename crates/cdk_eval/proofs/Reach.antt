@@ -36,12 +36,12 @@ in_when_among n (x ∷ xs) h = at (bytes_eq n x) refl h (in_when_among n xs)
     at true e h later = inl (sym (bytes_same n x e))
     at false e h later = inr (later h)
 
-any_in : (test : List ℕ → Bool) (n : List ℕ) (xs : List (List ℕ)) → IsIn n xs → test n ≡ true → list_any test xs ≡ true
+pub any_in : (test : List ℕ → Bool) (n : List ℕ) (xs : List (List ℕ)) → IsIn n xs → test n ≡ true → list_any test xs ≡ true
 any_in test n [] h t = absurd h
 any_in test n (x ∷ xs) (inl e) t = ap (λ b. b || list_any test xs) (ap test e ∙ t)
 any_in test n (x ∷ xs) (inr h) t = or_right (test x) (list_any test xs) (any_in test n xs h t)
 
-any_more : (t u : List ℕ → Bool) → ((d : List ℕ) → t d ≡ true → u d ≡ true) → (xs : List (List ℕ)) → list_any t xs ≡ true → list_any u xs ≡ true
+pub any_more : (t u : List ℕ → Bool) → ((d : List ℕ) → t d ≡ true → u d ≡ true) → (xs : List (List ℕ)) → list_any t xs ≡ true → list_any u xs ≡ true
 any_more t u f [] h = cc
 any_more t u f (x ∷ xs) h = at (t x) refl h (any_more t u f xs)
   where
@@ -49,7 +49,7 @@ any_more t u f (x ∷ xs) h = at (t x) refl h (any_more t u f xs)
     at true e h later = ap (λ b. b || list_any u xs) (f x e)
     at false e h later = or_right (u x) (list_any u xs) (later h)
 
-or_more : (a b c : Bool) → (b ≡ true → c ≡ true) → (a || b) ≡ true → (a || c) ≡ true
+pub or_more : (a b c : Bool) → (b ≡ true → c ≡ true) → (a || b) ≡ true → (a || c) ≡ true
 or_more true b c f h = refl
 or_more false b c f h = f h
 

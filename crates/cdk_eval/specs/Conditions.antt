@@ -175,6 +175,10 @@ named_truth operand cs c = truth_within operand cs (count cs) c
 abbrev pub BoundSuffices : Type 0
 BoundSuffices = (operand : Data → Outcome) (cs : Members) (n : ℕ) (c : List ℕ) → count cs ≤ n → truth_within operand cs n c ≡ named_truth operand cs c
 
+-- what reaches itself by any way is told
+abbrev pub LoopsAreFound : Type 0
+LoopsAreFound = (cs : Members) (n : ℕ) (c : List ℕ) → reaches cs n c c ≡ true → is_loop cs c ≡ true
+
 -- a condition that doesn't reach itself has the truth of its form, under the truths of the names in it
 abbrev pub NamesAreOpened : Type 0
 NamesAreOpened =

@@ -2,6 +2,7 @@ pub mod Assembly
 pub mod Conditions
 pub mod Faults
 pub mod Form
+pub mod Manifest
 pub mod Outcomes
 pub mod Reach
 pub mod Reading

@@ -7,5 +7,8 @@ mod laws;
 mod role;
 
 pub use fault::EvalFault;
-pub use laws::{condition_bound_suffices, condition_names_are_opened};
+pub use laws::{
+    condition_bound_suffices, condition_loops_are_found, condition_names_are_opened,
+    cycles_are_found, order_is_whole, order_keeps_dependencies,
+};
 pub use role::Role;
