@@ -7,7 +7,7 @@ use Rattle.serde_json.specs.Find.{get_member}
 use Rattle.cdk_eval.specs.declared.fault.EvalFault.TheVariants.{ConditionLoop}
 use Rattle.cdk_eval.specs.Outcomes.{Untold}
 use Rattle.cdk_eval.specs.Template.{Scope, outcome}
-use Rattle.cdk_eval.specs.Conditions.{truth_of, names_of, count, reaches as json_reaches, is_loop, found_truth, truth_within as json_truth_within}
+use Rattle.cdk_eval.specs.Conditions.{truth_of, names_of, reaches as json_reaches, is_loop, found_truth, truth_within as json_truth_within}
 use Rattle.cdk_meaning.specs.Plain.{Condition, IsWellCondition}
 use Rattle.cdk_meaning.specs.Mentions.{operand_mentions, names_in}
 use Rattle.cdk_meaning.specs.Source.{Source}
@@ -17,10 +17,10 @@ use Rattle.cdk_meaning.specs.Rendered.{Homes, rendered_condition}
 use Rattle.cdk_meaning.specs.Kept.{Keeps, PseudosKept}
 use Rattle.cdk_meaning.specs.Names.{AreDistinct, IsIn, Each}
 use Rattle.cdk_meaning.specs.Sections.{built}
-use Rattle.cdk_meaning.specs.ConditionsKept.{condition_section, operand_text, AreStackConditions, ConditionsKeepTruth, TruthIsFixed}
+use Rattle.cdk_meaning.specs.ConditionsKept.{IsConditionSection, operand_text, AreStackConditions, ConditionsKeepTruth, TruthIsFixed}
 use Rattle.cdk_meaning.proofs.Joins.{bytes_same}
 use Rattle.cdk_meaning.proofs.NameLists.{same_bytes, each_at, each_more}
-use Rattle.cdk_meaning.proofs.Sections.{found_at, as_many}
+use Rattle.cdk_meaning.proofs.Sections.{found_at}
 use Rattle.cdk_meaning.proofs.OneCondition.{truth_kept, names_kept}
 use Rattle.cdk_meaning.proofs.ConditionChains.{bound_enough}
 
@@ -45,12 +45,9 @@ same_name name ns c d apart i j = at (c == d) refl (bytes_eq (name c) (name d)) 
     at true h false g = let t : bytes_eq (name c) (name d) ≡ true = ap (λ k. bytes_eq (name c) (name k)) (sym (eqb-true c d h)) ∙ same_bytes (name c) in cc (t, g)
     at false h true g = let t : c == d ≡ true = eq-eqb c d (same_construct name ns c d apart i j (bytes_same (name c) (name d) g)) in cc (t, h)
 
-module _ (src : ℕ → Source) (h : Homes) (t : Scope) (conditions : ℕ → Condition) (ns : List ℕ) (k : AreStackConditions src h t conditions ns) where
-  abbrev cs : Members
-  cs = condition_section h conditions ns
-
+module _ (src : ℕ → Source) (h : Homes) (t : Scope) (conditions : ℕ → Condition) (ns : List ℕ) (k : AreStackConditions src h t conditions ns) (cs : Members) (w : IsConditionSection h conditions ns cs) where
   found : (c : ℕ) → IsIn c ns → get_member (h.condition c) cs ≡ Some (rendered_condition h (conditions c))
-  found c i = found_at (λ a. h.condition a) (λ a. rendered_condition h (conditions a)) c ns k.distinct i
+  found c i = w.found c i
 
   well : (c : ℕ) → IsIn c ns → IsWellCondition (conditions c)
   well c i = each_at (λ a. IsWellCondition (conditions a)) c ns k.well i
@@ -66,11 +63,8 @@ module _ (src : ℕ → Source) (h : Homes) (t : Scope) (conditions : ℕ → Co
       ∙ any_map (λ d. h.condition d) (λ d. bytes_eq d (h.condition g) || json_reaches cs n (h.condition g) d) (λ d. (d == g) || reaches conditions n g d) (names_in (conditions c))
       (each_more (λ d. IsIn d ns) (λ d. bytes_eq (h.condition d) (h.condition g) || json_reaches cs n (h.condition g) (h.condition d) ≡ (d == g) || reaches conditions n g d) (names_in (conditions c)) (λ d u m. rw (same_name (λ a. h.condition a) ns d g k.distinct m j, reaches_kept n g d j m)) (closed c i))
 
-  counted : count cs ≡ length ns
-  counted = as_many (λ a. h.condition a) (λ a. rendered_condition h (conditions a)) ns k.distinct
-
   no_loop : (c : ℕ) → IsIn c ns → is_loop cs (h.condition c) ≡ false
-  no_loop c i = ap (λ n. json_reaches cs n (h.condition c) (h.condition c)) counted ∙ reaches_kept (length ns) c c i i ∙ each_at (λ a. reaches conditions (length ns) a a ≡ false) c ns k.free i
+  no_loop c i = ap (λ n. json_reaches cs n (h.condition c) (h.condition c)) w.counted ∙ reaches_kept (length ns) c c i i ∙ each_at (λ a. reaches conditions (length ns) a a ≡ false) c ns k.free i
 
   kept_within : (n c : ℕ) → IsIn c ns → seen_truth (json_truth_within (outcome t) cs n (h.condition c)) ≡ truth_within (operand_text src) conditions n c
   kept_within zero c i = ap (λ o. seen_truth (found_truth (λ d. Untold ConditionLoop) o)) (found c i)
@@ -81,9 +75,9 @@ module _ (src : ℕ → Source) (h : Homes) (t : Scope) (conditions : ℕ → Co
       (each_more (λ d. IsIn d ns) (λ d. seen_truth (json_truth_within (outcome t) cs n (h.condition d)) ≡ truth_within (operand_text src) conditions n d) (names_in (conditions c)) (λ d u m. kept_within n d m) (closed c i))
 
 pub conditions_kept : ConditionsKeepTruth
-conditions_kept src h t conditions ns k n c l i =
-    ap (λ m. seen_truth (json_truth_within (outcome t) (condition_section h conditions ns) m (h.condition c))) (counted src h t conditions ns k)
-    ∙ kept_within src h t conditions ns k (length ns) c i
+conditions_kept src h t conditions ns k cs w n c l i =
+    ap (λ m. seen_truth (json_truth_within (outcome t) cs m (h.condition c))) w.counted
+    ∙ kept_within src h t conditions ns k cs w (length ns) c i
     ∙ bound_enough (operand_text src) conditions ns k.closed k.free (length ns) n c (omega arith) l i
 
 pub truth_is_fixed : TruthIsFixed

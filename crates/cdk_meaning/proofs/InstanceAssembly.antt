@@ -14,13 +14,14 @@ use Rattle.cdk_meaning.specs.Plain.{Plain, text, ref, get_att, concat, join, imp
 use Rattle.cdk_meaning.specs.Source.{Undefined}
 use Rattle.cdk_meaning.specs.Meaning.{meaning}
 use Rattle.cdk_meaning.specs.Agreement.{Agrees}
-use Rattle.cdk_meaning.specs.Rendered.{Home, Local, Import, ImportList, list_delimiter, one, two, join_json, ref_json, attribute_json, import_json, rendered}
-use Rattle.cdk_meaning.specs.Constructs.{list_form, Element, parameter_of, resource_of, condition_of, other_element, Constructs, source_of}
+use Rattle.cdk_meaning.specs.Rendered.{Home, Local, Import, ImportList, list_delimiter, one, two, join_json, ref_json, attribute_json, import_json, rendered, rendered_condition}
+use Rattle.cdk_meaning.specs.Constructs.{list_form, Element, parameter_of, resource_of, condition_of, other_element, Constructs, condition_at, source_of}
 use Rattle.cdk_meaning.specs.StackTemplate.{Parts, homes_of, IsTemplateOf}
 use Rattle.cdk_meaning.specs.ListsKept.{text_items}
 use Rattle.cdk_meaning.specs.AssemblyKept.{IsExported, targets_in, resources_in, exports_before}
 use Rattle.cdk_meaning.specs.ReportKept.{IsResourceTold, AreResourcesTold, MeansUndefined, IsOutputTold}
 use Rattle.cdk_meaning.proofs.Report.{resources_keep_meaning, outputs_keep_meaning}
+use Rattle.cdk_meaning.proofs.Sections.{built_is_section}
 use Rattle.cdk_meaning.proofs.Lists.{cutting_undoes_joining}
 use Rattle.cdk_meaning.proofs.Assembly.{imports_stand, assemblies_keep_meaning}
 
@@ -108,16 +109,15 @@ local_attribute n a = Local (logical n)
 
 net_template : IsTemplateOf constructs net_parts (homes_of constructs net_target local_attribute) entry (codes "Net") net.template
 net_template = record {
-  parameters_stand = refl;
-  resources_stand = refl;
-  conditions_stand = refl;
-  mappings_stand = refl;
+  parameters_stand = built_is_section logical entry (2 ∷ []) (refl, tt);
+  resources_stand = built_is_section logical entry (1 ∷ 4 ∷ []) (refl, (refl, tt));
+  conditions_stand = built_is_section logical (λ m. rendered_condition (homes_of constructs net_target local_attribute) (condition_at constructs m)) (3 ∷ []) (refl, tt);
+  mappings_stand = built_is_section logical entry [] tt;
   parameters = ((refl, refl), tt);
   resources = ((refl, tt), ((refl, inl refl), tt));
   mappings = tt;
   targets_apart = (refl, (refl, (refl, tt)));
   conditions_apart = (refl, tt);
-  mappings_apart = tt;
   names = (refl, (refl, (refl, tt)));
   placed = (refl, (refl, (refl, (refl, tt))));
   closed = (tt, tt);
@@ -128,16 +128,15 @@ net_template = record {
 
 shop_template : IsTemplateOf constructs shop_parts (homes_of constructs target attribute) entry (codes "Shop") shop.template
 shop_template = record {
-  parameters_stand = refl;
-  resources_stand = refl;
-  conditions_stand = refl;
-  mappings_stand = refl;
+  parameters_stand = built_is_section logical entry [] tt;
+  resources_stand = built_is_section logical entry (5 ∷ []) (refl, tt);
+  conditions_stand = built_is_section logical (λ m. rendered_condition (homes_of constructs target attribute) (condition_at constructs m)) [] tt;
+  mappings_stand = built_is_section logical entry [] tt;
   parameters = tt;
   resources = ((refl, tt), tt);
   mappings = tt;
   targets_apart = (refl, tt);
   conditions_apart = tt;
-  mappings_apart = tt;
   names = (refl, tt);
   placed = (refl, tt);
   closed = tt;

@@ -8,19 +8,19 @@ use Rattle.cdk_eval.specs.Outcomes.{Value}
 use Rattle.cdk_eval.specs.Template.{outcome}
 use Rattle.serde_json.specs.Find.{get_member}
 use Rattle.cdk_eval.specs.Conditions.{named_truth}
-use Rattle.cdk_eval.specs.Sections.{operand_scope, scope}
+use Rattle.cdk_eval.specs.Sections.{section, operand_scope, scope}
 use Rattle.cdk_meaning.specs.Plain.{Plain, pseudo, region, text, list_of, object_of, no_fields, field, ref, get_att, concat, join, choice, find_in_map, no_plains, plain, equals, negation, named}
 use Rattle.cdk_meaning.specs.Meaning.{meaning}
 use Rattle.cdk_meaning.specs.Agreement.{Agrees, seen_truth}
-use Rattle.cdk_meaning.specs.Rendered.{Home, Local, Import, one, two, rendered}
+use Rattle.cdk_meaning.specs.Rendered.{Home, Local, Import, one, two, rendered, rendered_condition}
 use Rattle.cdk_meaning.specs.Constructs.{text_form, list_form, Element, parameter_of, resource_of, condition_of, mapping_of, other_element, Constructs, source_at, condition_at, source_of}
 use Rattle.cdk_meaning.specs.StackTemplate.{Parts, homes_of, IsTemplateOf}
 use Rattle.cdk_meaning.specs.Sections.{built}
-use Rattle.cdk_meaning.specs.ConditionsKept.{condition_section, AreStackConditions}
+use Rattle.cdk_meaning.specs.ConditionsKept.{AreStackConditions}
 use Rattle.cdk_meaning.specs.Source.{Means}
 use Rattle.cdk_base.specs.Pretty.{IsCanonical}
 use Rattle.cdk_meaning.proofs.Canonical.{rendered_is_canonical}
-use Rattle.cdk_meaning.proofs.Sections.{sections_hold}
+use Rattle.cdk_meaning.proofs.Sections.{built_is_section, sections_hold}
 use Rattle.cdk_meaning.proofs.Conditions.{conditions_kept}
 use Rattle.cdk_meaning.proofs.Kept.{rendering_kept}
 use Rattle.cdk_meaning.proofs.Pseudos.{pseudos_kept}
@@ -85,16 +85,15 @@ template = object (
 
 pub shop_template : IsTemplateOf constructs shop (homes_of constructs target attribute) entry (codes "Shop") template
 shop_template = record {
-  parameters_stand = refl;
-  resources_stand = refl;
-  conditions_stand = refl;
-  mappings_stand = refl;
+  parameters_stand = built_is_section logical entry (1 ∷ 2 ∷ []) (refl, (refl, tt));
+  resources_stand = built_is_section logical entry (6 ∷ 7 ∷ []) (refl, (refl, tt));
+  conditions_stand = built_is_section logical (λ n. rendered_condition (homes_of constructs target attribute) (condition_at constructs n)) (3 ∷ 4 ∷ []) (refl, (refl, tt));
+  mappings_stand = built_is_section logical entry (5 ∷ []) (refl, tt);
   parameters = ((refl, refl), ((refl, refl), tt));
   resources = ((refl, inl refl), ((refl, tt), tt));
   mappings = ((refl, ((refl, tt), tt)), tt);
   targets_apart = (refl, (refl, (refl, (refl, tt))));
   conditions_apart = (refl, (refl, tt));
-  mappings_apart = (refl, tt);
   names = (refl, (refl, (refl, (refl, tt))));
   placed = (refl, (refl, (refl, (refl, (refl, (refl, tt))))));
   closed = (tt, ((inl refl, tt), tt));
@@ -122,14 +121,14 @@ written_is = refl
 -- ---- the laws that this one rests on, at the same stack
 
 pub bucket_found : get_member (codes "Bucket") (built logical entry (6 ∷ 7 ∷ [])) ≡ Some (entry 6)
-bucket_found = (sections_hold logical entry (6 ∷ 7 ∷ []) (refl, (refl, tt))).found 6 (inl refl)
+bucket_found = (sections_hold logical entry (6 ∷ 7 ∷ []) (refl, (refl, tt))).from_the_last.found 6 (inl refl)
 
 pub shop_conditions : AreStackConditions (source_at no_values constructs) (homes_of constructs target attribute) (operand_scope no_values (codes "Shop") template) (condition_at constructs) (3 ∷ 4 ∷ [])
 shop_conditions = stack_conditions no_values constructs shop target attribute entry (codes "Shop") template shop_template
 
 -- `NotProd` is false
-pub not_prod : seen_truth (named_truth (outcome (operand_scope no_values (codes "Shop") template)) (condition_section (homes_of constructs target attribute) (condition_at constructs) (3 ∷ 4 ∷ [])) (codes "NotProd")) ≡ Some false
-not_prod = conditions_kept (source_at no_values constructs) (homes_of constructs target attribute) (operand_scope no_values (codes "Shop") template) (condition_at constructs) (3 ∷ 4 ∷ []) shop_conditions 2 4 (omega arith) (inr (inl refl))
+pub not_prod : seen_truth (named_truth (outcome (operand_scope no_values (codes "Shop") template)) (section (codes "Conditions") template) (codes "NotProd")) ≡ Some false
+not_prod = conditions_kept (source_at no_values constructs) (homes_of constructs target attribute) (operand_scope no_values (codes "Shop") template) (condition_at constructs) (3 ∷ 4 ∷ []) shop_conditions (section (codes "Conditions") template) shop_template.conditions_stand 2 4 (omega arith) (inr (inl refl))
 
 pub topic_agrees : Agrees (outcome (scope no_values (codes "Shop") template exports) (rendered (homes_of constructs target attribute) (concat (plain (ref 7) (plain (pseudo region) no_plains))))) (Means (string (codes "Shop.Topicus-east-1")))
 topic_agrees =

@@ -30,8 +30,7 @@ use Rattle.cdk_meaning.specs.ReportKept.{AgreeAll, IsResourceTold, AreResourcesT
 use Rattle.cdk_meaning.proofs.Collapse.{seen_agrees}
 use Rattle.cdk_meaning.proofs.Joins.{bytes_same}
 use Rattle.cdk_meaning.proofs.NameLists.{each_front, each_back}
-use Rattle.cdk_meaning.proofs.Sections.{as_many}
-use Rattle.cdk_meaning.proofs.Stack.{resource_found, resource_guard, resource_entry, presence_stands, logical_apart}
+use Rattle.cdk_meaning.proofs.Stack.{resource_found, resource_guard, resource_entry, presence_stands}
 use Rattle.cdk_meaning.proofs.Assembly.{assemblies_keep_meaning}
 
 -- the key that compares equal is the key
@@ -137,7 +136,7 @@ module _ (v : Values) (cs : Constructs) (most : ℕ) (before : List Stack) (s : 
 
   all_told : AreResourcesTold v cs most before s later p target attribute entry
   all_told = record {
-    counted = resources_counted there place (section (codes "Resources") s.template) ∙ ap count t.resources_stand ∙ as_many (λ n. cs.logical n) entry p.resources (logical_apart v cs p target attribute entry s.name s.template t);
+    counted = resources_counted there place (section (codes "Resources") s.template) ∙ t.resources_stand.counted;
     each = resource_told;
   }
 

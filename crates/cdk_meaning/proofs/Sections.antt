@@ -1,5 +1,5 @@
 -- Entries are found by their names.
-use Rattle.std.proofs.Common.{◌≡◌, ℕ, suc, List, [], ◌∷◌, length, map, true, false, Some, None, refl, ap, ◌∙◌, subst, inl, inr}
+use Rattle.std.proofs.Common.{arith, ◌+◌, sym, ◌≡◌, ℕ, suc, List, [], ◌∷◌, length, map, true, false, Some, None, refl, ap, ◌∙◌, subst, inl, inr}
 use Rattle.std.specs.Prelude.{bytes_eq}
 use Rattle.std.specs.Ordering.{nat_cmp, match_ordering, ordering_reverse}
 use Rattle.std.specs.Cmp.Lexicographic.{slice_cmp}
@@ -13,7 +13,7 @@ use Rattle.cdk_base.specs.Pretty.{AllAbove, IsCanonical, MembersAreCanonical}
 use Rattle.cdk_eval.specs.Conditions.{count}
 use Rattle.cdk_eval.specs.Reach.{is_among}
 use Rattle.cdk_meaning.specs.Names.{AreDistinct, IsIn, Each}
-use Rattle.cdk_meaning.specs.Sections.{built, SectionsHold}
+use Rattle.cdk_meaning.specs.Sections.{IsSection, built, filled, SectionsHold}
 use Rattle.cdk_meaning.proofs.NameLists.{same_bytes, neither, is_named}
 
 -- ---- the keys stay in order
@@ -60,6 +60,15 @@ put_counted k d (member l e ms) h = at (slice_cmp nat_cmp k l) h (put_counted k 
     at Equal g later = cc
     at Greater g later = ap suc (later g)
 
+zero-add : (n : ℕ) → 0 + n ≡ n
+zero-add n = omega arith
+
+add_zero : (n : ℕ) → n + 0 ≡ n
+add_zero n = omega arith
+
+suc_right : (n m : ℕ) → n + suc m ≡ suc n + m
+suc_right n m = omega arith
+
 -- ---- the entries are found
 
 module _ (name : ℕ → List ℕ) (entry : ℕ → Data) where
@@ -83,5 +92,44 @@ module _ (name : ℕ → List ℕ) (entry : ℕ → Data) where
   in_order [] h = tt
   in_order (m ∷ ns) h = put_ordered (name m) (entry m) (built name entry ns) h.0 (in_order ns h.1)
 
+  pub built_is_section : (ns : List ℕ) → AreDistinct (map name ns) → IsSection name entry ns (built name entry ns)
+  built_is_section ns d = record { found = λ n i. found_at n ns d i; lacks = λ k l. lacked k ns l; counted = as_many ns d }
+
+  -- ---- from the first on
+
+  filled_other : (k : List ℕ) (ns : List ℕ) (ms : Members) → is_among k (map name ns) ≡ false → get_member k (filled name entry ns ms) ≡ get_member k ms
+  filled_other k [] ms h = refl
+  filled_other k (m ∷ ns) ms h =
+      let p = neither (bytes_eq k (name m)) (is_among k (map name ns)) h in
+      filled_other k ns (put (name m) (entry m) ms) p.1 ∙ get_member-put_other k (name m) (entry m) ms (λ e. let t : bytes_eq k (name m) ≡ true = rw e (same_bytes (name m)) in cc (t, p.0))
+
+  filled_found : (n : ℕ) (ns : List ℕ) (ms : Members) → AreDistinct (map name ns) → IsIn n ns → get_member (name n) (filled name entry ns ms) ≡ Some (entry n)
+  filled_found n [] ms d i = absurd i
+  filled_found n (m ∷ ns) ms d (inl h) =
+      subst (λ (k : ℕ). get_member (name k) (filled name entry ns (put (name m) (entry m) ms)) ≡ Some (entry k)) h (filled_other (name m) ns (put (name m) (entry m) ms) d.0 ∙ get_member-put (name m) (entry m) ms)
+  filled_found n (m ∷ ns) ms d (inr i) = filled_found n ns (put (name m) (entry m) ms) d.1 i
+
+  still_new : (m : ℕ) (ns : List ℕ) (ms : Members) → is_among (name m) (map name ns) ≡ false → Each (λ n. get_member (name n) ms ≡ None) ns → Each (λ n. get_member (name n) (put (name m) (entry m) ms) ≡ None) ns
+  still_new m [] ms h new = tt
+  still_new m (n ∷ ns) ms h new =
+      let p = neither (bytes_eq (name m) (name n)) (is_among (name m) (map name ns)) h in
+      (get_member-put_other (name n) (name m) (entry m) ms (λ e. let t : bytes_eq (name m) (name n) ≡ true = rw e (same_bytes (name m)) in cc (t, p.0)) ∙ new.0, still_new m ns ms p.1 new.1)
+
+  filled_counted : (ns : List ℕ) (ms : Members) → AreDistinct (map name ns) → Each (λ n. get_member (name n) ms ≡ None) ns → count (filled name entry ns ms) ≡ length ns + count ms
+  filled_counted [] ms d new = sym (zero-add (count ms))
+  filled_counted (m ∷ ns) ms d new =
+      filled_counted ns (put (name m) (entry m) ms) d.1 (still_new m ns ms d.0 new.1) ∙ ap (λ c. length ns + c) (put_counted (name m) (entry m) ms new.0) ∙ suc_right (length ns) (count ms)
+
+  all_new : (ns : List ℕ) → Each (λ n. get_member (name n) no_members ≡ None) ns
+  all_new [] = tt
+  all_new (n ∷ ns) = (refl, all_new ns)
+
+  filled_is_section : (ns : List ℕ) → AreDistinct (map name ns) → IsSection name entry ns (filled name entry ns no_members)
+  filled_is_section ns d = record { found = λ n i. filled_found n ns no_members d i; lacks = λ k l. filled_other k ns no_members l; counted = filled_counted ns no_members d (all_new ns) ∙ add_zero (length ns) }
+
+  filled_in_order : (ns : List ℕ) (ms : Members) → Each (λ n. IsCanonical (entry n)) ns → MembersAreCanonical ms → MembersAreCanonical (filled name entry ns ms)
+  filled_in_order [] ms h o = o
+  filled_in_order (m ∷ ns) ms h o = filled_in_order ns (put (name m) (entry m) ms) h.1 (put_ordered (name m) (entry m) ms h.0 o)
+
 pub sections_hold : SectionsHold
-sections_hold name entry ns d = record { found = λ n i. found_at name entry n ns d i; lacks = λ k l. lacked name entry k ns l; counted = as_many name entry ns d; ordered = in_order name entry ns }
+sections_hold name entry ns d = record { from_the_last = built_is_section name entry ns d; from_the_first = filled_is_section name entry ns d; ordered = λ c. (in_order name entry ns c, filled_in_order name entry ns no_members c tt) }

@@ -12,7 +12,6 @@ use Rattle.cdk_base.specs.Json.{text_of}
 use Rattle.cdk_eval.specs.Values.{Values, physical_text, attribute_text, pseudo_text}
 use Rattle.cdk_eval.specs.Outcomes.{Outcome, Gone, Truth, Holds, Untold}
 use Rattle.cdk_eval.specs.Template.{Scope, text_else, ref_outcome, outcome}
-use Rattle.cdk_eval.specs.Conditions.{named_truth}
 use Rattle.cdk_eval.specs.Sections.{section, is_list_type, parameter_value, parameter_outcome, literal_or_bad, leaf_value, leaf_outcome, operand_resource, parameter_else, operand_scope, condition_truth, presence_by, presence, made_text, resource_outcome, attribute_outcome, target_outcome, scope}
 use Rattle.cdk_meaning.specs.Plain.{IsWellCondition}
 use Rattle.cdk_meaning.specs.Mentions.{Mention, to_target, to_attribute, to_condition, to_mapping, to_import, mentions, operand_mentions}
@@ -28,9 +27,8 @@ use Rattle.cdk_meaning.specs.Constructs.{ParameterForm, text_form, number_form, 
 use Rattle.cdk_meaning.specs.StackTemplate.{Parts, form_text, IsParameterEntry, IsGuardIn, IsResourceEntry, EachMember, IsLeaf, IsRow, IsMapping, IsMappingEntry, homes_of, IsOperandMention, has_colon, IsTemplateOf, TargetStands, MentionStands, StacksKeepMeaning}
 use Rattle.cdk_meaning.proofs.Collapse.{agrees_seen}
 use Rattle.cdk_meaning.proofs.Kept.{kept}
-use Rattle.cdk_meaning.proofs.NameLists.{apart_back, distinct_front, distinct_back, each_at, each_front, each_back, each_more, in_either, is_named}
+use Rattle.cdk_meaning.proofs.NameLists.{apart_back, each_at, each_front, each_back, each_more, in_either, is_named}
 use Rattle.cdk_meaning.proofs.OneCondition.{map_append}
-use Rattle.cdk_meaning.proofs.Sections.{found_at, lacked}
 use Rattle.cdk_meaning.proofs.Conditions.{conditions_kept}
 use Rattle.cdk_meaning.proofs.Pseudos.{pseudos_kept, operand_pseudos_kept, no_gone, no_pseudo}
 
@@ -115,20 +113,17 @@ module _ (v : Values) (cs : Constructs) (p : Parts) (target : ℕ → Home) (att
   apart : AreDistinct (map logical p.parameters ++ map logical p.resources)
   apart = subst AreDistinct (map_append logical p.parameters p.resources) w.targets_apart
 
-  pub logical_apart : AreDistinct (map logical p.resources)
-  logical_apart = distinct_back (map logical p.parameters) (map logical p.resources) apart
-
   parameter_found : (n : ℕ) → IsIn n p.parameters → get_member (cs.logical n) (section (codes "Parameters") template) ≡ Some (entry n)
-  parameter_found n i = ap (get_member (cs.logical n)) w.parameters_stand ∙ found_at logical entry n p.parameters (distinct_front (map logical p.parameters) (map logical p.resources) apart) i
+  parameter_found n i = w.parameters_stand.found n i
 
   parameter_lacked : (n : ℕ) → IsIn n p.resources → get_member (cs.logical n) (section (codes "Parameters") template) ≡ None
-  parameter_lacked n i = ap (get_member (cs.logical n)) w.parameters_stand ∙ lacked logical entry (cs.logical n) p.parameters (apart_back (cs.logical n) (map logical p.parameters) (map logical p.resources) apart (is_named logical n p.resources i))
+  parameter_lacked n i = w.parameters_stand.lacks (cs.logical n) (apart_back (cs.logical n) (map logical p.parameters) (map logical p.resources) apart (is_named logical n p.resources i))
 
   pub resource_found : (n : ℕ) → IsIn n p.resources → get_member (cs.logical n) (section (codes "Resources") template) ≡ Some (entry n)
-  resource_found n i = ap (get_member (cs.logical n)) w.resources_stand ∙ found_at logical entry n p.resources logical_apart i
+  resource_found n i = w.resources_stand.found n i
 
   mapping_found : (n : ℕ) → IsIn n p.mappings → get_member (cs.logical n) (section (codes "Mappings") template) ≡ Some (entry n)
-  mapping_found n i = ap (get_member (cs.logical n)) w.mappings_stand ∙ found_at logical entry n p.mappings w.mappings_apart i
+  mapping_found n i = w.mappings_stand.found n i
 
   parameter_placed : (n : ℕ) → IsIn n p.parameters → cs.stack n ≡ stack
   parameter_placed n i = each_at (λ m. cs.stack m ≡ stack) n p.parameters (each_front (λ m. cs.stack m ≡ stack) p.parameters (p.resources ++ p.conditions) w.placed) i
@@ -185,8 +180,7 @@ module _ (v : Values) (cs : Constructs) (p : Parts) (target : ℕ → Home) (att
 
   pub condition_stands : (most c : ℕ) → length p.conditions ≤ most → IsIn c p.conditions → seen_truth (condition_truth v stack template (cs.logical c)) ≡ truth v cs most c
   condition_stands most c l i =
-      ap (λ ms. seen_truth (named_truth (outcome (operand_scope v stack template)) ms (cs.logical c))) w.conditions_stand
-      ∙ conditions_kept (source_at v cs) h (operand_scope v stack template) (condition_at cs) p.conditions stack_conditions most c l i
+      conditions_kept (source_at v cs) h (operand_scope v stack template) (condition_at cs) p.conditions stack_conditions (section (codes "Conditions") template) w.conditions_stand most c l i
 
   -- ---- resources
 

@@ -12,11 +12,11 @@ use Rattle.cdk_meaning.specs.Agreement.{seen_truth}
 use Rattle.cdk_meaning.specs.Rendered.{Homes, rendered_condition}
 use Rattle.cdk_meaning.specs.Kept.{Keeps, PseudosKept}
 use Rattle.cdk_meaning.specs.Names.{AreDistinct, IsIn, Each}
-use Rattle.cdk_meaning.specs.Sections.{built}
+use Rattle.cdk_meaning.specs.Sections.{IsSection}
 
--- The section of these conditions.
-abbrev pub condition_section : Homes → (ℕ → Condition) → List ℕ → Members
-condition_section h conditions ns = built (λ c. h.condition c) (λ c. rendered_condition h (conditions c)) ns
+-- The section has these conditions by their names.
+abbrev pub IsConditionSection : Homes → (ℕ → Condition) → List ℕ → Members → Type 0
+IsConditionSection h conditions ns ms = IsSection (λ c. h.condition c) (λ c. rendered_condition h (conditions c)) ns ms
 
 -- The text of an operand at the condition that holds it.
 abbrev pub operand_text : (ℕ → Source) → ℕ → Plain → Option (List ℕ)
@@ -35,8 +35,9 @@ pub record AreStackConditions (src : ℕ → Source) (h : Homes) (t : Scope) (co
 abbrev pub ConditionsKeepTruth : Type 0
 ConditionsKeepTruth =
     (src : ℕ → Source) (h : Homes) (t : Scope) (conditions : ℕ → Condition) (ns : List ℕ) → AreStackConditions src h t conditions ns
+    → (ms : Members) → IsConditionSection h conditions ns ms
     → (n c : ℕ) → length ns ≤ n → IsIn c ns
-    → seen_truth (named_truth (outcome t) (condition_section h conditions ns) (h.condition c)) ≡ truth_within (operand_text src) conditions n c
+    → seen_truth (named_truth (outcome t) ms (h.condition c)) ≡ truth_within (operand_text src) conditions n c
 
 -- And the truth of each is what its condition means by the truths of those that it names: the bound is no part of the meaning.
 abbrev pub TruthIsFixed : Type 0

@@ -16,7 +16,7 @@ use Rattle.cdk_meaning.specs.Truth.{reaches}
 use Rattle.cdk_meaning.specs.Agreement.{Agrees}
 use Rattle.cdk_meaning.specs.Rendered.{Home, Local, Import, ImportList, Homes, list_delimiter, rendered, rendered_condition}
 use Rattle.cdk_meaning.specs.Names.{AreDistinct, IsIn, Each}
-use Rattle.cdk_meaning.specs.Sections.{built}
+use Rattle.cdk_meaning.specs.Sections.{IsSection}
 use Rattle.cdk_meaning.specs.Constructs.{ParameterForm, text_form, number_form, list_form, Element, parameter_of, resource_of, mapping_of, Constructs, condition_at, source_of}
 
 -- The constructs of one stack that names of its template stand for.
@@ -86,10 +86,10 @@ has_colon n = list_any (λ c. c == 58) n
 
 pub record IsTemplateOf (cs : Constructs) (p : Parts) (h : Homes) (entry : ℕ → Data) (stack : List ℕ) (template : Data) : Type 0 where
   -- the sections
-  pub parameters_stand : section (codes "Parameters") template ≡ built (λ n. cs.logical n) entry p.parameters
-  pub resources_stand : section (codes "Resources") template ≡ built (λ n. cs.logical n) entry p.resources
-  pub conditions_stand : section (codes "Conditions") template ≡ built (λ n. cs.logical n) (λ n. rendered_condition h (condition_at cs n)) p.conditions
-  pub mappings_stand : section (codes "Mappings") template ≡ built (λ n. cs.logical n) entry p.mappings
+  pub parameters_stand : IsSection (λ n. cs.logical n) entry p.parameters (section (codes "Parameters") template)
+  pub resources_stand : IsSection (λ n. cs.logical n) entry p.resources (section (codes "Resources") template)
+  pub conditions_stand : IsSection (λ n. cs.logical n) (λ n. rendered_condition h (condition_at cs n)) p.conditions (section (codes "Conditions") template)
+  pub mappings_stand : IsSection (λ n. cs.logical n) entry p.mappings (section (codes "Mappings") template)
   -- the entries
   pub parameters : Each (λ n. IsParameterEntry (cs.element n) (entry n)) p.parameters
   pub resources : Each (λ n. IsResourceEntry (λ c. cs.logical c) p.conditions (cs.element n) (entry n)) p.resources
@@ -97,7 +97,6 @@ pub record IsTemplateOf (cs : Constructs) (p : Parts) (h : Homes) (entry : ℕ �
   -- the names
   pub targets_apart : AreDistinct (map (λ n. cs.logical n) (p.parameters ++ p.resources))
   pub conditions_apart : AreDistinct (map (λ n. cs.logical n) p.conditions)
-  pub mappings_apart : AreDistinct (map (λ n. cs.logical n) p.mappings)
   pub names : Each (λ n. has_colon (cs.logical n) ≡ false) (p.parameters ++ p.resources)
   pub placed : Each (λ n. cs.stack n ≡ stack) (p.parameters ++ (p.resources ++ p.conditions))
   -- the conditions
