@@ -80,7 +80,8 @@ module _ (conditions : ℕ → Condition) where
       at d (inl e) later = subst (λ (y : ℕ). reaches conditions (suc n) g y ≡ true) (sym (eqb-true d c e)) (one_step n c g i)
       at d (inr u) later = later u
 
-  more_steps : (n m g c : ℕ) → n ≤ m → reaches conditions n g c ≡ true → reaches conditions m g c ≡ true
+  -- what is free of itself at a bound is so at each lower one
+  pub more_steps : (n m g c : ℕ) → n ≤ m → reaches conditions n g c ≡ true → reaches conditions m g c ≡ true
   more_steps zero m g c l h = cc
   more_steps (suc n) zero g c l h = let no_such : ⊥ = omega arith in absurd no_such
   more_steps (suc n) (suc m) g c l h =

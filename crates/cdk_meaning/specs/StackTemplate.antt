@@ -84,6 +84,8 @@ IsOperandMention cs p h (to_import e) = ⊥
 abbrev pub has_colon : List ℕ → Bool
 has_colon n = list_any (λ c. c == 58) n
 
+-- The template has the constructs of the stack: its sections have their entries, by logical names that differ; its conditions name one
+-- another and none reaches itself; and their operands mention the stack's parameters and mappings alone.
 pub record IsTemplateOf (cs : Constructs) (p : Parts) (h : Homes) (entry : ℕ → Data) (stack : List ℕ) (template : Data) : Type 0 where
   -- the sections
   pub parameters_stand : IsSection (λ n. cs.logical n) entry p.parameters (section (codes "Parameters") template)
