@@ -2,7 +2,7 @@
 -- own): an assembly's own stacks, then its nested assemblies by artifact id.
 use Rattle.std.specs.Prelude.{ℕ, zero, suc, List, [], ◌∷◌, ◌++◌, length, Bool, true, false, Option, Some, None, Result, Ok, Err, nat_le, if◌then◌else◌, codes}
 use Rattle.serde_json.specs.Data.{Data}
-use Rattle.serde_json.specs.Read.{read}
+use Rattle.cdk_base.specs.Json.{parsed}
 use Rattle.cdk_eval.specs.declared.role.Role.{Role}
 use Rattle.cdk_eval.specs.declared.role.Role.TheVariants.{ValuesFile, Template, Manifest}
 use Rattle.cdk_eval.specs.Form.{first_miss}
@@ -51,7 +51,7 @@ is_within (Some limit) n = nat_le n limit
 
 -- the value of a text that has the form
 abbrev pub document : Option ℕ → Role → List ℕ → Result Data Misread
-document limit role text = if is_within limit (length text) then in_form role (read text) else Err TooLong
+document limit role text = if is_within limit (length text) then in_form role (parsed text) else Err TooLong
 
 -- the values that the text of a values file gives
 abbrev pub values_read : Option ℕ → List ℕ → Result Values Misread
