@@ -1,20 +1,23 @@
 // Each call of the bucket's run failing once: the status, the line, and what stands.
-use crate::bucket::{MANIFEST, TEMPLATE, TREE};
-use crate::world::{BUCKET, run_words, world_of};
+use crate::bucket::{manifest, template, tree};
+use crate::world::{bucket_application, run_words, world_of};
 use cdk_tool::Status;
 use std::test::Fail;
 
 const OLD: &[u8] = b"old";
 
 // What a put leaves that fails: the first half of its bytes, rounded down.
-const HALF_TEMPLATE: &[u8] =
-    b"{\n  \"Resources\": {\n    \"Bucket\": {\n      \"Metadata\": {\n        \"aws:cdk:path\": \"S/Bucket\"\n      },\n  ";
+fn half_template() -> &'static [u8] {
+    b"{\n  \"Resources\": {\n    \"Bucket\": {\n      \"Metadata\": {\n        \"aws:cdk:path\": \"S/Bucket\"\n      },\n  "
+}
 
-const HALF_TREE: &[u8] =
-    b"{\n  \"tree\": {\n    \"children\": {\n      \"S\": {\n        \"children\": {\n          \"Bucket\": {\n            \"attributes\": {\n              \"aws:cdk:cloudformation:props\": {\n                \"BucketName\": \"logs\"\n              },\n              \"aws:cdk:cloud";
+fn half_tree() -> &'static [u8] {
+    b"{\n  \"tree\": {\n    \"children\": {\n      \"S\": {\n        \"children\": {\n          \"Bucket\": {\n            \"attributes\": {\n              \"aws:cdk:cloudformation:props\": {\n                \"BucketName\": \"logs\"\n              },\n              \"aws:cdk:cloud"
+}
 
-const HALF_MANIFEST: &[u8] =
-    b"{\n  \"artifacts\": {\n    \"S\": {\n      \"dependencies\": [],\n      \"displayName\": \"S\",\n      \"environment\": \"aws://unknown-account/unknown-region\",\n      \"metadata\": {\n        \"/S/Bucket\": [\n          {\n            \"data\": \"Bucket\",\n            \"type\": \"aws:cdk:logicalId\"\n          }\n        ]";
+fn half_manifest() -> &'static [u8] {
+    b"{\n  \"artifacts\": {\n    \"S\": {\n      \"dependencies\": [],\n      \"displayName\": \"S\",\n      \"environment\": \"aws://unknown-account/unknown-region\",\n      \"metadata\": {\n        \"/S/Bucket\": [\n          {\n            \"data\": \"Bucket\",\n            \"type\": \"aws:cdk:logicalId\"\n          }\n        ]"
+}
 
 // The number of the call that fails: read, make_dir, remove, and three puts. The files that stand then.
 #[derive(Clone, Copy)]
@@ -57,7 +60,7 @@ fn rows() -> [Row; 7] {
             call: 4,
             status: Status::WriteFault,
             line: b"cdkcore: cannot write \"out/S.template.json\"\n",
-            template: Some(HALF_TEMPLATE),
+            template: Some(half_template()),
             tree: None,
             manifest: None,
         },
@@ -65,25 +68,25 @@ fn rows() -> [Row; 7] {
             call: 5,
             status: Status::WriteFault,
             line: b"cdkcore: cannot write \"out/tree.json\"\n",
-            template: Some(TEMPLATE),
-            tree: Some(HALF_TREE),
+            template: Some(template()),
+            tree: Some(half_tree()),
             manifest: None,
         },
         Row {
             call: 6,
             status: Status::WriteFault,
             line: b"cdkcore: cannot write \"out/manifest.json\"\n",
-            template: Some(TEMPLATE),
-            tree: Some(TREE),
-            manifest: Some(HALF_MANIFEST),
+            template: Some(template()),
+            tree: Some(tree()),
+            manifest: Some(half_manifest()),
         },
         Row {
             call: 7,
             status: Status::Done,
             line: b"",
-            template: Some(TEMPLATE),
-            tree: Some(TREE),
-            manifest: Some(MANIFEST),
+            template: Some(template()),
+            tree: Some(tree()),
+            manifest: Some(manifest()),
         },
     ]
 }
@@ -92,7 +95,7 @@ fn rows() -> [Row; 7] {
 fn one_call_fails(rt: HostRuntime) -> Result<(), Fail> {
     let alloc = rt.alloc();
     for row in rows() {
-        let mut world = world_of(alloc, BUCKET, 2000, &[row.call], &[])?;
+        let mut world = world_of(alloc, bucket_application(), 2000, &[row.call], &[])?;
         world.files.add("out/manifest.json", OLD)?;
         let status = run_words(alloc, &mut world, &["synth", "app.json", "out"])?;
         assert!(rt; status == row.status);
@@ -110,7 +113,7 @@ fn one_call_fails(rt: HostRuntime) -> Result<(), Fail> {
 fn the_line_fails_too(rt: HostRuntime) -> Result<(), Fail> {
     let alloc = rt.alloc();
     for row in rows() {
-        let mut world = world_of(alloc, BUCKET, 2000, &[row.call], &[1])?;
+        let mut world = world_of(alloc, bucket_application(), 2000, &[row.call], &[1])?;
         world.files.add("out/manifest.json", OLD)?;
         let status = run_words(alloc, &mut world, &["synth", "app.json", "out"])?;
         assert!(rt; status == row.status);
@@ -124,13 +127,13 @@ fn the_line_fails_too(rt: HostRuntime) -> Result<(), Fail> {
 #[test]
 fn room_for_half_the_files(rt: HostRuntime) -> Result<(), Fail> {
     let alloc = rt.alloc();
-    let mut world = world_of(alloc, BUCKET, 300, &[], &[])?;
+    let mut world = world_of(alloc, bucket_application(), 300, &[], &[])?;
     world.files.add("out/manifest.json", OLD)?;
     let status = run_words(alloc, &mut world, &["synth", "app.json", "out"])?;
     assert!(rt; status == Status::WriteFault);
     let line = b"cdkcore: cannot write \"out/tree.json\"\n";
     assert_eq!(rt; world.err.bytes(), line.as_slice());
-    assert_eq!(rt; world.files.get("out/S.template.json"), Some(TEMPLATE));
+    assert_eq!(rt; world.files.get("out/S.template.json"), Some(template()));
     assert_eq!(rt; world.files.get("out/tree.json"), None);
     assert_eq!(rt; world.files.get("out/manifest.json"), None);
     Ok(())

@@ -1,10 +1,11 @@
 // Applications and words that are refused, each with its status and its line.
-use crate::world::{BUCKET, run_words, world_of};
+use crate::world::{bucket_application, run_words, world_of};
 use cdk_tool::Status;
 use std::test::Fail;
 
-const SAME_IDS: &[u8] =
-    b"{\"app\":\"1\",\"children\":[{\"kind\":\"stack\",\"id\":\"S\",\"children\":[{\"kind\":\"resource\",\"id\":\"A\",\"type\":\"T\"},{\"kind\":\"resource\",\"id\":\"A\",\"type\":\"T\"}]}]}";
+fn same_ids() -> &'static [u8] {
+    b"{\"app\":\"1\",\"children\":[{\"kind\":\"stack\",\"id\":\"S\",\"children\":[{\"kind\":\"resource\",\"id\":\"A\",\"type\":\"T\"},{\"kind\":\"resource\",\"id\":\"A\",\"type\":\"T\"}]}]}"
+}
 
 #[test]
 fn faults_of_documents(rt: HostRuntime) -> Result<(), Fail> {
@@ -14,7 +15,7 @@ fn faults_of_documents(rt: HostRuntime) -> Result<(), Fail> {
     let rows = [
         (b"".as_slice(), not_json),
         (b"{\"app\":\"1\"}".as_slice(), shape),
-        (SAME_IDS, shape),
+        (same_ids(), shape),
     ];
     for (application, line) in rows {
         let mut world = world_of(alloc, application, 2000, &[], &[])?;
@@ -41,12 +42,12 @@ fn one_byte_too_many(rt: HostRuntime) -> Result<(), Fail> {
 #[test]
 fn words_and_names(rt: HostRuntime) -> Result<(), Fail> {
     let alloc = rt.alloc();
-    let mut absent = world_of(alloc, BUCKET, 2000, &[], &[])?;
+    let mut absent = world_of(alloc, bucket_application(), 2000, &[], &[])?;
     let status = run_words(alloc, &mut absent, &["synth", "none.json", "out"])?;
     assert!(rt; status == Status::ReadFault);
     let line = b"cdkcore: cannot read \"none.json\"\n";
     assert_eq!(rt; absent.err.bytes(), line.as_slice());
-    let mut short = world_of(alloc, BUCKET, 2000, &[], &[])?;
+    let mut short = world_of(alloc, bucket_application(), 2000, &[], &[])?;
     let status = run_words(alloc, &mut short, &["synth", "app.json"])?;
     assert!(rt; status == Status::BadWords);
     let line = b"cdkcore: bad words\n";

@@ -4,8 +4,9 @@ use cdk_outside::{MemFiles, MemSink};
 use cdk_tool::{Status, run};
 use std::alloc::{AllocError, Global};
 
-pub const BUCKET: &[u8] =
-    b"{\"app\":\"1\",\"children\":[{\"kind\":\"stack\",\"id\":\"S\",\"children\":[{\"kind\":\"resource\",\"id\":\"Bucket\",\"type\":\"AWS::S3::Bucket\",\"properties\":{\"BucketName\":\"logs\"}}]}]}";
+pub fn bucket_application() -> &'static [u8] {
+    b"{\"app\":\"1\",\"children\":[{\"kind\":\"stack\",\"id\":\"S\",\"children\":[{\"kind\":\"resource\",\"id\":\"Bucket\",\"type\":\"AWS::S3::Bucket\",\"properties\":{\"BucketName\":\"logs\"}}]}]}"
+}
 
 #[derive(Drop)]
 pub struct World {
