@@ -1,3 +1,5 @@
 pub mod ReadBack
 pub mod Formed
 pub mod Alone
+pub mod Told
+pub mod Law
