@@ -3,3 +3,4 @@ pub mod Formed
 pub mod Alone
 pub mod Told
 pub mod Law
+mod Instance
