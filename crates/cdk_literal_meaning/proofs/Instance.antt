@@ -7,13 +7,14 @@ use Rattle.serde_json.proofs.OnLiterals.{serde_json_on_literals}
 use Rattle.serde_json.specs.Data.{Data, string, Members, no_members, member}
 use Rattle.cdk_base.specs.Pretty.{pretty_text}
 use Rattle.cdk_eval.specs.Values.{Values}
-use Rattle.cdk_eval.specs.Outcomes.{Outcome, Value}
-use Rattle.cdk_eval.specs.Stack.{Stack, StackOutcome, ResourceOutcome}
+use Rattle.cdk_eval.specs.Outcomes.{Value, Holds}
+use Rattle.cdk_eval.specs.Stack.{StackOutcome, ResourceOutcome, stack_outcome}
 use Rattle.cdk_eval.specs.Reading.{reading}
-use Rattle.cdk_eval.specs.Assembly.{assembly_outcome}
+use Rattle.cdk_eval.specs.Assembly.{outside_exports, assembly_outcome}
 use Rattle.cdk_meaning.specs.Names.{IsIn}
-use Rattle.cdk_meaning.specs.Source.{Means}
-use Rattle.cdk_meaning.specs.Agreement.{Agrees}
+use Rattle.cdk_meaning.specs.Plain.{text, no_fields, field}
+use Rattle.cdk_meaning.specs.Source.{Source}
+use Rattle.cdk_meaning.specs.ReportKept.{AgreeAll, IsResourceTold}
 use Rattle.cdk_literals.specs.LiteralStack.{LiteralResource, LiteralStack}
 use Rattle.cdk_literals.specs.Written.{IsWrittenStack}
 use Rattle.cdk_literal_meaning.specs.TreeMeaning.{AgreesWithTree, evaluated, plain_properties, source_in}
@@ -46,3 +47,25 @@ files path =
 pub bucket_keeps_meaning : (reading files (codes "out") ≡ Ok (evaluated bucket ∷ [])) × ((v : Values) → AgreesWithTree v bucket (assembly_outcome v (evaluated bucket ∷ [])))
 unfolding serde_json_on_literals is_utf8 chars
 bucket_keeps_meaning = literals_keep_meaning_law bucket refl bucket_is_written files (codes "out") refl refl refl refl
+
+-- ---- another name
+
+abbrev told_of : List ℕ → ResourceOutcome
+told_of name = record { logical = codes "Bucket"; presence = Holds true; properties = (codes "BucketName", Value (string name)) ∷ [] }
+
+not_told : (src : Source) (rs : List ResourceOutcome) → rs ≡ told_of (codes "other") ∷ [] → IsResourceTold src (Some true) (field (codes "BucketName") (text (codes "logs")) no_fields) (codes "Bucket") rs → ⊥
+not_told src rs is told = at (subst (IsIn told.own) is told.told)
+  where
+    at : IsIn told.own (told_of (codes "other") ∷ []) → ⊥
+    at (inl e) =
+        let agreed : AgreeAll src (field (codes "BucketName") (text (codes "logs")) no_fields) (told_of (codes "other")).properties = subst (λ (r : ResourceOutcome). AgreeAll src (field (codes "BucketName") (text (codes "logs")) no_fields) r.properties) (sym e) (told.properties refl) in
+        let same : string (codes "other") ≡ string (codes "logs") = agreed.1 in
+        cc same
+    at (inr e) = absurd e
+
+another_name_disagrees : (v : Values) → AgreesWithTree v bucket (assembly_outcome v (evaluated (bucket_named (codes "other")) ∷ [])) → ⊥
+another_name_disagrees v a =
+    let other = evaluated (bucket_named (codes "other")) in
+    let only : stack_outcome v (outside_exports v (other ∷ [])) other ∷ [] ≡ a.stack ∷ [] = a.only in
+    let same : stack_outcome v (outside_exports v (other ∷ [])) other ≡ a.stack = cc only in
+    not_told (source_in v bucket) a.stack.resources (sym (ap (λ (t : StackOutcome). t.resources) same)) a.each.0
