@@ -1,8 +1,8 @@
 -- The files of the assembly of a stack of literals are read as that stack alone.
-use Rattle.std.proofs.Common.{◌≡◌, ℕ, List, [], ◌∷◌, ◌++◌, Bool, true, false, Option, Some, None, Result, Ok, Err, refl, sym, ap, ◌∙◌, subst}
-use Rattle.std.specs.Prelude.{codes, bytes_eq, if◌then◌else◌}
+use Rattle.std.proofs.Common.{◌≡◌, ℕ, List, [], ◌∷◌, ◌++◌, true, Option, Some, None, Result, Ok, refl, ap, ◌∙◌}
+use Rattle.std.specs.Prelude.{codes}
 use Rattle.std.specs.Str.{is_utf8}
-use Rattle.serde_json.specs.Data.{Data, Members, no_members, member, put}
+use Rattle.serde_json.specs.Data.{Data, Members}
 use Rattle.cdk_base.specs.Json.{parsed}
 use Rattle.cdk_base.specs.Pretty.{pretty_text}
 use Rattle.cdk_eval.specs.declared.role.Role.{Role}
@@ -10,10 +10,10 @@ use Rattle.cdk_eval.specs.declared.role.Role.TheVariants.{Template, Manifest}
 use Rattle.cdk_eval.specs.Form.{first_miss}
 use Rattle.cdk_eval.specs.Manifest.{StackArtifact, artifacts, stack_ids, stack_artifacts, stacks_of, nested_directories, cyclic, in_order}
 use Rattle.cdk_eval.specs.Stack.{Stack}
-use Rattle.cdk_eval.specs.Reading.{FileFault, Misread, ok_then, collected, formed, in_form, document, at_file, path_in, no_cycle, contents, document_at, stack_in, manifest_in, assembly_with, assembly_at, reading}
+use Rattle.cdk_eval.specs.Reading.{FileFault, ok_then, collected, formed, in_form, document, at_file, path_in, no_cycle, contents, document_at, stack_in, manifest_in, assembly_with, assembly_at, reading}
 use Rattle.cdk_meaning.proofs.NameLists.{same_bytes}
 use Rattle.cdk_literals.specs.LiteralStack.{LiteralStack, is_literal_stack}
-use Rattle.cdk_literals.specs.Documents.{template, template_file, stack_artifact, tree_artifact, manifest}
+use Rattle.cdk_literals.specs.Documents.{template, template_file, manifest}
 use Rattle.cdk_literals.specs.Written.{IsWrittenStack}
 use Rattle.cdk_literal_meaning.specs.TreeMeaning.{evaluated}
 use Rattle.cdk_literal_meaning.proofs.ReadBack.{manifest_parsed, template_parsed}

@@ -1,6 +1,6 @@
 -- The manifest and the template of a stack of literals miss nothing of their forms.
-use Rattle.std.proofs.Common.{◌≡◌, ℕ, ◌+◌, List, [], ◌∷◌, ◌++◌, map, Bool, true, false, None, refl, sym, ap, ◌∙◌, arith, true≢false}
-use Rattle.std.specs.Prelude.{◌==◌, ◌&&◌, not, codes, decimal, bytes_eq}
+use Rattle.std.proofs.Common.{◌≡◌, ℕ, ◌+◌, List, [], ◌∷◌, ◌++◌, map, true, false, None, refl, sym, ap, ◌∙◌, arith, true≢false}
+use Rattle.std.specs.Prelude.{◌==◌, not, codes, decimal, bytes_eq}
 use Rattle.std.specs.List.{list_all}
 use Rattle.std.specs.Char.{is_ascii_alphabetic, is_ascii_alphanumeric}
 use Rattle.std.specs.Ordering.{nat_cmp, match_ordering, is_eq}
@@ -15,7 +15,7 @@ use Rattle.cdk_names.specs.Forms.{is_logical}
 use Rattle.cdk_eval.specs.declared.role.Role.TheVariants.{Anything, AnyObject, Template, Resources, Resource, Manifest, Artifacts, StackArtifact}
 use Rattle.cdk_eval.specs.Form.{is_file_name, place, inside, in_items, in_members, first_of, first_miss}
 use Rattle.cdk_literals.specs.LiteralStack.{LiteralResource, LiteralStack, is_stack_id, is_literal_stack}
-use Rattle.cdk_literals.specs.Documents.{with_members, text, path_of, unless_empty, optional_member, template_resource, template_resources, template, logical_id_entry, metadata, template_file, stack_artifact, tree_artifact, manifest}
+use Rattle.cdk_literals.specs.Documents.{with_members, text, path_of, unless_empty, optional_member, template_resource, template_resources, template, metadata, template_file, stack_artifact, tree_artifact, manifest}
 use Rattle.cdk_literals.proofs.WrittenLaws.{and_front, and_back, not_true, and_true}
 
 -- ---- where anything may stand

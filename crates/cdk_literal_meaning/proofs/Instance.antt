@@ -1,11 +1,10 @@
 -- The law at a bucket: its premises are met by the two files, byte for byte; and a template with another name for the bucket
 -- doesn't agree with the tree.
-use Rattle.std.proofs.Common.{◌≡◌, ℕ, List, [], ◌∷◌, true, Option, Some, None, Result, Ok, refl, sym, ap, ◌∙◌, subst, inl, inr}
-use Rattle.std.specs.Prelude.{codes, bytes_eq, if◌then◌else◌, ◌⊎◌}
+use Rattle.std.proofs.Common.{◌≡◌, ℕ, List, [], ◌∷◌, true, Option, Some, None, Ok, refl, sym, ap, subst, inl, inr}
+use Rattle.std.specs.Prelude.{codes, bytes_eq, if◌then◌else◌}
 use Rattle.std.specs.Str.{is_utf8, chars}
 use Rattle.serde_json.proofs.OnLiterals.{serde_json_on_literals}
-use Rattle.serde_json.specs.Data.{Data, string, Members, no_members, member}
-use Rattle.cdk_base.specs.Pretty.{pretty_text}
+use Rattle.serde_json.specs.Data.{string, no_members, member}
 use Rattle.cdk_eval.specs.Values.{Values}
 use Rattle.cdk_eval.specs.Outcomes.{Value, Holds}
 use Rattle.cdk_eval.specs.Stack.{StackOutcome, ResourceOutcome, stack_outcome}
@@ -15,9 +14,9 @@ use Rattle.cdk_meaning.specs.Names.{IsIn}
 use Rattle.cdk_meaning.specs.Plain.{text, no_fields, field}
 use Rattle.cdk_meaning.specs.Source.{Source}
 use Rattle.cdk_meaning.specs.ReportKept.{AgreeAll, IsResourceTold}
-use Rattle.cdk_literals.specs.LiteralStack.{LiteralResource, LiteralStack}
+use Rattle.cdk_literals.specs.LiteralStack.{LiteralStack}
 use Rattle.cdk_literals.specs.Written.{IsWrittenStack}
-use Rattle.cdk_literal_meaning.specs.TreeMeaning.{AgreesWithTree, evaluated, plain_properties, source_in}
+use Rattle.cdk_literal_meaning.specs.TreeMeaning.{AgreesWithTree, evaluated, source_in}
 use Rattle.cdk_literal_meaning.proofs.Law.{literals_keep_meaning_law}
 
 abbrev bucket_named : List ℕ → LiteralStack

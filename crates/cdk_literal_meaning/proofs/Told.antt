@@ -1,22 +1,19 @@
 -- What the template of a stack of literals comes to is what its tree means.
-use Rattle.std.proofs.Common.{◌≡◌, ℕ, zero, suc, ◌+◌, pos, negsuc, List, [], ◌∷◌, length, map, Bool, true, false, Option, Some, None, refl, sym, ap, ◌∙◌, subst, arith, true≢false}
+use Rattle.std.proofs.Common.{◌≡◌, ℕ, suc, ◌+◌, pos, negsuc, List, [], ◌∷◌, length, map, Bool, true, false, Option, Some, None, refl, sym, ap, ◌∙◌, subst, arith, true≢false}
 use Rattle.std.specs.Prelude.{codes, bytes_eq, nat_le, if◌then◌else◌}
 use Rattle.std.specs.List.{list_all}
-use Rattle.serde_json.specs.Data.{Num, unsigned, negative, float, Data, null, boolean, number, string, array, object, Members, no_members, member, put}
+use Rattle.serde_json.specs.Data.{unsigned, negative, float, Data, null, boolean, number, string, array, object, Members, no_members, member, put}
 use Rattle.serde_json.specs.Find.{get, get_member}
 use Rattle.serde_json.proofs.Views.{get_member-put, get_member-put_other}
-use Rattle.cdk_base.specs.Json.{is_whole, is_form_key}
-use Rattle.cdk_base.specs.Marker.{has_marker}
 use Rattle.cdk_eval.specs.declared.fault.EvalFault.TheVariants.{BadIntrinsic}
 use Rattle.cdk_eval.specs.Conditions.{count}
 use Rattle.cdk_eval.specs.Reach.{is_among}
 use Rattle.cdk_eval.specs.Values.{Values}
-use Rattle.cdk_eval.specs.Outcomes.{Outcome, Value, Fault, Truth, Holds}
+use Rattle.cdk_eval.specs.Outcomes.{Value, Fault, Truth, Holds}
 use Rattle.cdk_eval.specs.Template.{Scope, outcome, each_member}
 use Rattle.cdk_eval.specs.Sections.{section, presence_by, presence, scope}
-use Rattle.cdk_eval.specs.Stack.{Stack, properties_of, resource_at, resource_outcomes, output_outcomes, stack_outcome, stack_scope}
+use Rattle.cdk_eval.specs.Stack.{properties_of, resource_at, output_outcomes, stack_outcome}
 use Rattle.cdk_eval.specs.Assembly.{outside_exports, assembly_outcome}
-use Rattle.cdk_meaning.specs.Plain.{Fields}
 use Rattle.cdk_meaning.specs.Source.{Source}
 use Rattle.cdk_meaning.specs.Meaning.{meaning}
 use Rattle.cdk_meaning.specs.Agreement.{Agrees, seen_truth}
