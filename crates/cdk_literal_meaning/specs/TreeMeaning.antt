@@ -1,8 +1,8 @@
 -- What the construct tree of one stack of literals means, and when what its assembly comes to agrees with it (own; the
 -- meaning of expressions is told in cdk_meaning).
-use Rattle.std.specs.Prelude.{◌≡◌, ℕ, ℤ, pos, List, [], ◌∷◌, length, true, false, Option, Some, None, Result, Ok, slice_get, unwrap_or, codes, option_map}
+use Rattle.std.specs.Prelude.{◌≡◌, ℕ, pos, List, [], ◌∷◌, length, true, Option, Some, None, Ok, slice_get, unwrap_or, codes, option_map}
 use Rattle.std.specs.Str.{is_utf8}
-use Rattle.serde_json.specs.Data.{Num, unsigned, negative, float, Data, null, boolean, number, string, array, object, Members, no_members, member}
+use Rattle.serde_json.specs.Data.{Num, unsigned, negative, float, Data, boolean, number, string, Members, no_members, member}
 use Rattle.cdk_base.specs.Pretty.{pretty_text}
 use Rattle.cdk_eval.specs.Values.{Values}
 use Rattle.cdk_eval.specs.Stack.{Stack, StackOutcome}
@@ -13,7 +13,7 @@ use Rattle.cdk_meaning.specs.Source.{Source}
 use Rattle.cdk_meaning.specs.Constructs.{Constructs, resource_of, source_of}
 use Rattle.cdk_meaning.specs.Names.{Each}
 use Rattle.cdk_meaning.specs.ReportKept.{IsResourceTold}
-use Rattle.cdk_literals.specs.LiteralStack.{LiteralResource, LiteralStack, is_literal_stack}
+use Rattle.cdk_literals.specs.LiteralStack.{LiteralStack, is_literal_stack}
 use Rattle.cdk_literals.specs.Written.{IsWrittenStack}
 use Rattle.cdk_literals.specs.Documents.{template, template_file, manifest}
 use Rattle.cdk_write.specs.Steps.{path_in}

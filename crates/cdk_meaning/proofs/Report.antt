@@ -40,7 +40,7 @@ same_key k l h = bytes_same k l (sym (is_eq-slice_cmp k l) ∙ ap is_eq h)
 -- ---- resources
 
 module _ (there : Data → Truth) (s : Scope) where
-  resource_in : (k : List ℕ) (e : Data) (ms : Members) → get_member k ms ≡ Some e → IsIn (resource_at (there e) s k e) (resource_outcomes there s ms)
+  pub resource_in : (k : List ℕ) (e : Data) (ms : Members) → get_member k ms ≡ Some e → IsIn (resource_at (there e) s k e) (resource_outcomes there s ms)
   resource_in k e no_members h = cc
   resource_in k e (member l d ms) h = at (slice_cmp nat_cmp k l) refl h (resource_in k e ms)
     where
@@ -58,7 +58,7 @@ module _ (there : Data → Truth) (s : Scope) where
       at Equal is g later = let same : d ≡ e = cc g in inl (ap (λ x. (l, output_at (there x) s x)) same ∙ ap (λ x. (x, output_at (there e) s e)) (sym (same_key k l is)))
       at Greater is g later = inr (later g)
 
-  resources_counted : (ms : Members) → length (resource_outcomes there s ms) ≡ count ms
+  pub resources_counted : (ms : Members) → length (resource_outcomes there s ms) ≡ count ms
   resources_counted no_members = refl
   resources_counted (member k e ms) = ap suc (resources_counted ms)
 

@@ -51,7 +51,7 @@ put_ordered k d (member l e ms) h o = at (slice_cmp nat_cmp k l) refl (put_order
 
 -- ---- a new key
 
-put_counted : (k : List ℕ) (d : Data) (ms : Members) → get_member k ms ≡ None → count (put k d ms) ≡ suc (count ms)
+pub put_counted : (k : List ℕ) (d : Data) (ms : Members) → get_member k ms ≡ None → count (put k d ms) ≡ suc (count ms)
 put_counted k d no_members h = refl
 put_counted k d (member l e ms) h = at (slice_cmp nat_cmp k l) h (put_counted k d ms)
   where
