@@ -1,3 +1,4 @@
 pub mod AssemblyLemmas
 pub mod CauseLemmas
+pub mod HeadlineLemmas
 pub mod StepsLemmas

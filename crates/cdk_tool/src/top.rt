@@ -3,7 +3,8 @@ ghost use Rattle.std.specs.Prelude.{◌≡◌, ◌≤◌, ℕ, List, true, false
 ghost use Rattle.cdk_outside.specs.Outside.{Holds, Rose};
 ghost use Rattle.cdk_write.specs.Lines.{read_line, write_line, error_line, bad_words_line, memory_line, Says};
 ghost use Rattle.cdk_write.specs.Steps.{step_view, step_path, files_after_all, directories_after_all, StoppedAt, put, path_in as path_in_directory};
-ghost use Rattle.cdk_tool.specs.Assembly.{first_fault, assembly_of, steps_of as steps_of_writing};
+ghost use Rattle.cdk_tool.specs.Assembly.{first_fault, assembly_of, steps_of as steps_of_writing, AllUtf8};
+ghost use Rattle.cdk_tool.specs.Headline.{MeaningIsKept};
 ghost use Rattle.cdk_tool.specs.Words.{command_of};
 ghost use Rattle.cdk_tool.specs.Status.{is_of_synth, is_of_writing, may_have_written, IsComplete};
 ghost use Rattle.cdk_tool.specs.Causes.{IsCause, IsDone, IsCut, IsReadFault, IsAppFault, IsToldFault, IsToldRefusal};
@@ -31,7 +32,7 @@ enum Refusal {
 
 // The files of the application's assembly.
 fn gather<F: Files>(alloc: Global, app: &str, files: &mut F) -> Result<List<File>, Refusal>
-    ensures ok { IfOk result (λ list. (bytes : List ℕ) × Holds (F.files files.old) app.now bytes × (first_fault bytes ≡ None) × (list ≡ assembly_of bytes)) }
+    ensures ok { IfOk result (λ list. (bytes : List ℕ) × Holds (F.files files.old) app.now bytes × (first_fault bytes ≡ None) × (list ≡ assembly_of bytes) × AllUtf8 list) }
     ensures refused { IfErr result (λ refusal. IsCause refusal (F.files files.old) app.now (F.read_faults files.old) (F.read_faults files.new) (F.failed_read files.new)) }
     ensures files { F.files files.new ≡ F.files files.old }
     ensures directories { F.directories files.new ≡ F.directories files.old }
@@ -160,6 +161,7 @@ fn synth_command<F: Files, E: Sink>(
     ensures read { result ≡ Status.ReadFault → IsReadFault app.now (F.read_faults files.old) (F.read_faults files.new) (F.failed_read files.new) (E.written err.old) (E.written err.new) (E.faults err.old) (E.faults err.new) }
     ensures fault { result ≡ Status.AppFault → IsAppFault (F.files files.old) app.now (E.written err.old) (E.written err.new) (E.faults err.old) (E.faults err.new) }
     ensures done { result ≡ Status.Done → IsDone app.now directory.now (F.files files.old) (F.files files.new) (F.directories files.old) (F.directories files.new) }
+    ensures meaning { result ≡ Status.Done → MeaningIsKept app.now directory.now (F.files files.old) (F.files files.new) }
     ensures done_err { result ≡ Status.Done → E.written err.new ≡ E.written err.old }
     ensures cut { result ≡ Status.WriteFault → IsCut app.now directory.now (F.files files.old) (F.files files.new) (F.directories files.old) (F.directories files.new) (F.failed_write files.new) (E.written err.old) (E.written err.new) (E.faults err.old) (E.faults err.new) }
     ensures rose { result ≡ Status.WriteFault → Rose (F.write_faults files.old) (F.write_faults files.new) }
@@ -206,6 +208,9 @@ pub fn run<F: Files, O: Sink, E: Sink>(
     ensures fault { result ≡ Status.AppFault → IfSome (command_of words.now) (λ c. IsAppFault (F.files files.old) c.app (E.written err.old) (E.written err.new) (E.faults err.old) (E.faults err.new)) }
     // An application without fault, and its assembly is written whole.
     ensures done { result ≡ Status.Done → IfSome (command_of words.now) (λ c. IsDone c.app c.directory (F.files files.old) (F.files files.new) (F.directories files.old) (F.directories files.new)) }
+    // Evaluating the written files gives each property its meaning in the construct tree, under all values, and no text or
+    // key of a template has the beginning of a token's marker.
+    ensures meaning { result ≡ Status.Done → IfSome (command_of words.now) (λ c. MeaningIsKept c.app c.directory (F.files files.old) (F.files files.new)) }
     ensures done_err { result ≡ Status.Done → E.written err.new ≡ E.written err.old }
     // An application without fault whose writing stopped at a call that failed; what stands, and the name in the line.
     ensures cut { result ≡ Status.WriteFault → IfSome (command_of words.now) (λ c. IsCut c.app c.directory (F.files files.old) (F.files files.new) (F.directories files.old) (F.directories files.new) (F.failed_write files.new) (E.written err.old) (E.written err.new) (E.faults err.old) (E.faults err.new)) }
