@@ -12,7 +12,9 @@ use Rattle.cdk_tool.specs.declared.top.Refusal.{Refusal}
 use Rattle.cdk_tool.specs.declared.top.Refusal.TheVariants.{Unread, Faulty, NoRoom}
 use Rattle.cdk_tool.specs.declared.status.Status.{Status}
 use Rattle.cdk_tool.specs.declared.status.Status.TheVariants.{AppFault}
+use Rattle.cdk_write.proofs.StandingLemmas.{stands_at}
 use Rattle.cdk_tool.proofs.AssemblyLemmas.{long_fault}
+use Rattle.cdk_tool.proofs.ManifestLemmas.{manifest_stands, early_files, first_directories}
 
 -- a fault of the bytes that are held
 pub held_fault : (files : Contents) (name bytes : List ℕ) (fault : Fault) → Holds files name bytes → IsFaultOf (first_fault bytes) fault → HasFault files name fault
@@ -51,4 +53,15 @@ cut_is app directory bytes steps old read new old_dirs read_dirs dirs failed old
     let Q : Contents → Type 0 = λ files. (k : ℕ) × (stop : StoppedAt (steps_of directory (assembly_of bytes)) k files new read_dirs dirs failed) × Says old_err err old_faults faults (write_line (step_path stop.step)) in
     let R : Directories → Type 0 = λ ds. (k : ℕ) × (stop : StoppedAt (steps_of directory (assembly_of bytes)) k old new ds dirs failed) × Says old_err err old_faults faults (write_line (step_path stop.step)) in
     let all = subst R same_dirs (subst Q same (subst P is cut)) in
-    record { bytes = bytes; held = held; faultless = none; step = all.0; stopped = all.1; line = all.2 }
+    record {
+      bytes = bytes;
+      held = held;
+      faultless = none;
+      step = all.0;
+      stopped = all.1;
+      line = all.2;
+      stands = stands_at _ all.0 old new old_dirs dirs failed all.1;
+      manifest = manifest_stands directory bytes all.0 old new old_dirs dirs failed none all.1;
+      early = early_files directory (assembly_of bytes) all.0 old new old_dirs dirs failed all.1;
+      at_once = first_directories directory (assembly_of bytes) all.0 old new old_dirs dirs failed all.1;
+    }

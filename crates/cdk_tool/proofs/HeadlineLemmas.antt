@@ -35,12 +35,15 @@ Files = FinMap (slice_cmp nat_cmp) (List ℕ)
 got : (m : Files) (n b q : List ℕ) → get (insert m n b) q ≡ cond (bytes_eq q n) (Some b) (get m q)
 got m n b q = get-insert nat_list_cmp_total m n b q ∙ ap (λ t. cond t (Some b) (get m q)) (sym (texts_ties q n))
 
-same : (q : List ℕ) → bytes_eq q q ≡ true
+pub same : (q : List ℕ) → bytes_eq q q ≡ true
 same q = (bytes_eq-Decides q q).1 refl
 
 other : (b : Bool) (P : Type 0) → (b ≡ true → P) → (P → ⊥) → b ≡ false
 other true P is not_p = absurd (not_p (is refl))
 other false P is not_p = refl
+
+pub other_path : (q n : List ℕ) → (q ≡ n → ⊥) → bytes_eq q n ≡ false
+other_path q n apart = other (bytes_eq q n) (q ≡ n) (bytes_eq-Decides q n).0 apart
 
 pub get_set : (m : Files) (n b : List ℕ) → get (insert m n b) n ≡ Some b
 get_set m n b = got m n b n ∙ ap (λ t. cond t (Some b) (get m n)) (same n)
@@ -61,16 +64,16 @@ some_letter : (s : List ℕ) → is_logical s ≡ true → 0 < length s
 some_letter [] is = absurd (true≢false (sym is))
 some_letter (c ∷ s) is = omega arith
 
-name_length : (s : LiteralStack) → IsWrittenStack s → 14 < length (template_file s)
+pub name_length : (s : LiteralStack) → IsWrittenStack s → 14 < length (template_file s)
 name_length s w = omega (arith, length-append s.id (codes ".template.json"), some_letter s.id w.id)
 
 -- ---- the fault of a document that has none
 
-later : (b : Bool) (o : Option Found) → (if b then found TooLong else o) ≡ None → o ≡ None
+pub later : (b : Bool) (o : Option Found) → (if b then found TooLong else o) ≡ None → o ≡ None
 later true o e = cc
 later false o e = e
 
-is_form : (b : Bool) → (if b then None else found Shape) ≡ None → b ≡ true
+pub is_form : (b : Bool) → (if b then None else found Shape) ≡ None → b ≡ true
 is_form true e = refl
 is_form false e = cc
 
