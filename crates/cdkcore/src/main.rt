@@ -4,6 +4,7 @@
 use cdk_base::{List, Text};
 use cdk_outside::{DiskFiles, StdSink};
 use cdk_tool::{Status, run};
+use cdk_write::{OUT_OF_MEMORY, tell};
 use std::alloc::{AllocError, Global};
 use std::env;
 use std::io::ErrorKind;
@@ -27,19 +28,19 @@ fn words_of(rt: &HostRuntime, alloc: Global) -> Result<List<Text>, AllocError> {
     Ok(words)
 }
 
-fn start(rt: HostRuntime) -> Result<Status, AllocError> {
+fn start(rt: HostRuntime) -> Status {
     let alloc = rt.alloc();
-    let words = words_of(&rt, alloc)?;
     let mut out = StdSink::new(rt.stdout());
     let mut err = StdSink::new(rt.stderr());
+    let Ok(words) = words_of(&rt, alloc) else {
+        tell(&mut err, OUT_OF_MEMORY);
+        return Status::NoMemory;
+    };
     let mut files = DiskFiles::new(rt);
-    Ok(run(alloc, words.as_slice(), &mut files, &mut out, &mut err))
+    run(alloc, words.as_slice(), &mut files, &mut out, &mut err)
 }
 
 fn main(rt: HostRuntime) -> ExitCode {
-    let status = match start(rt) {
-        Ok(status) => status,
-        Err(_) => Status::NoMemory,
-    };
+    let status = start(rt);
     ExitCode::from(status.number() as u8)
 }
