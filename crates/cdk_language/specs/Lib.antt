@@ -6,3 +6,4 @@ pub mod Findings
 pub mod Runs
 pub mod Schema
 pub mod Sub
+pub mod SubView
