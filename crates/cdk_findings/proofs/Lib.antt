@@ -1,1 +1,4 @@
 pub mod Escaped
+pub mod Numerals
+pub mod Opening
+pub mod SubRuns
