@@ -1,5 +1,5 @@
 -- A run that ends with a part of a marker's beginning, and goes on.
-use Rattle.std.proofs.Common.{◌≡◌, ◌≢◌, ℕ, zero, suc, ◌+◌, ◌<◌, ◌≤◌, List, [], ◌∷◌, ◌++◌, length, take, slice_index, eqb, Bool, true, false, cond, Option, Some, None, codes, refl, sym, ap, ◌∙◌, arith, append_assoc}
+use Rattle.std.proofs.Common.{◌≡◌, ◌≢◌, ℕ, zero, suc, ◌+◌, ◌<◌, ◌≤◌, List, [], ◌∷◌, ◌++◌, length, take, slice_index, eqb, Bool, true, false, cond, Option, Some, None, codes, refl, sym, ap, ◌∙◌, arith, append_assoc, append-nil}
 use Rattle.std.specs.Prelude.{◌||◌, nat_eq}
 use Rattle.std.specs.List.{starts_with}
 use Rattle.std.proofs.lemmas.Bool.{eqb-true, eqb-false, ne_eqb}
@@ -133,3 +133,6 @@ reads-three n m k j a b c r s t = record {
   same = λ more. ap (λ u. is_marked_run u more) (sym (append_assoc (opening n) a (b ++ c)) ∙ sym (append_assoc (opening n ++ a) b c))
       ∙ r.same (Some b ∷ Some c ∷ more) ∙ s.same (Some c ∷ more) ∙ t.same more;
 }
+
+pub marked-reads : (m : ℕ) (a : Literals) → Reads 0 a m → is_marked_run [] a ≡ eqb m 8
+marked-reads m a r = ap (is_marked_run []) (sym (append-nil a)) ∙ r.same [] ∙ marked-end m r.bound

@@ -3,6 +3,7 @@ ghost use Rattle.std.specs.Prelude.{◌≡◌, ◌≤◌, ◌≢◌, ◌∷◌, 
 ghost use Rattle.serde_json.specs.View.{view, items_view, members_view};
 ghost use Rattle.serde_json.specs.Data.{boolean};
 ghost use Rattle.cdk_base.specs.Json.{text_of};
+ghost use Rattle.cdk_language.specs.Findings.{is_marked_form as spec_is_marked_form, is_joined_marked as spec_is_joined_marked};
 ghost use Rattle.cdk_language.specs.Runs.{no_literal, literals_of, form_literals, concat_literals, items_literals, substituted_literals, sub_literals, piece_literals, variables_literals};
 ghost use Rattle.cdk_language.specs.Schema.{is_wrong_sub_text as spec_is_wrong_sub_text};
 ghost use Rattle.cdk_language.specs.Sub.{pieces_of, literal};
@@ -13,7 +14,7 @@ ghost use Rattle.cdk_findings.specs.Reads.{Reads, step as spec_step};
 use crate::members::member;
 use crate::texts::is_wrong_sub_text;
 use cdk_base::{Map, Value};
-use cdk_language::{FirstPiece, SubPiece, Within, first_piece, is_variable_name};
+use cdk_language::{FirstPiece, Role, SubPiece, Within, first_piece, is_variable_name};
 use std::alloc::AllocError;
 
 /// How many bytes of `${Token[` or `#{Token[` the end of the run matches: 8 where the run holds one.
@@ -250,5 +251,29 @@ fn read_piece(left: &mut u64, matched: usize, piece: SubPiece<'_>, variables: &M
             }
         }
         SubPiece::Attribute(_, _) => Ok(read_other(matched)),
+    }
+}
+
+fn is_marked_form(left: &mut u64, value: &Value) -> Result<bool, AllocError>
+    ensures { IfOk result (λ b. b ≡ spec_is_marked_form (view value.now)) }
+{
+    match value {
+        Value::Object(members) => {
+            let matched = read_form(left, 0, members)?;
+            Ok(matched == WHOLE)
+        }
+        _ => Ok(false),
+    }
+}
+
+/// Whether a run of adjacent literals of the Concat or Sub that the value is holds the beginning of a marker.
+pub fn is_joined_marked(left: &mut u64, role: Role, value: &Value) -> Result<bool, AllocError>
+    ensures { IfOk result (λ b. b ≡ spec_is_joined_marked role (view value.now)) }
+{
+    match role {
+        Role::Expression(_) | Role::TextPlace(_) | Role::ListPlace(_) => {
+            is_marked_form(left, value)
+        }
+        _ => Ok(false),
     }
 }
