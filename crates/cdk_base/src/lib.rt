@@ -3,17 +3,19 @@
 
 mod code;
 mod fault;
-mod json;
 mod marker;
+mod parsing;
 mod text;
+mod value_text;
 
 pub use code::Code;
 pub use fault::Fault;
-pub use json::{json_text, pretty_bytes, pretty_text_reads_back, text_of};
 pub use marker::has_marker;
+pub use parsing::parse;
 pub use serde_json::Value;
 pub use sqlite_items::Items as List;
 pub use text::Text;
+pub use value_text::{json_text, pretty_bytes, pretty_text_reads_back, text_of};
 
 /// The members of a JSON object, by key bytes.
 pub type Map = serde_json::Map<String, Value>;
