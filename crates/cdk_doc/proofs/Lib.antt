@@ -1,0 +1,5 @@
+pub mod Around
+pub mod Pieces
+pub mod Reading
+pub mod Seen
+pub mod Variables

@@ -2,7 +2,11 @@
 #![tactic(auto)]
 
 mod copying;
+mod cutting;
 mod error;
+mod expressions;
 
 pub use copying::{Copies, copy_of};
+pub use cutting::{Variables, reference_of, substituted};
 pub use error::ReadError;
+pub use expressions::{fields_of, read_expression};
