@@ -1,5 +1,5 @@
 -- The pieces of the text of an `Fn::Sub` (CloudFormation reference), and what each stands for in an application.
-use Rattle.std.specs.Prelude.{ℕ, zero, suc, ◌==◌, ◌||◌, ◌&&◌, List, [], ◌∷◌, ◌++◌, length, drop, Bool, not, codes, nat_eq, if◌then◌else◌, Option, Some, None, option_map, option_and_then}
+use Rattle.std.specs.Prelude.{ℕ, zero, suc, ◌==◌, ◌||◌, ◌&&◌, List, [], ◌∷◌, ◌++◌, length, drop, Bool, not, codes, nat_eq, if◌then◌else◌, Option, Some, None, option_map}
 use Rattle.std.specs.List.{starts_with, list_all}
 use Rattle.std.specs.Char.{is_ascii_alphanumeric}
 
@@ -38,15 +38,41 @@ abbrev pub literal_before : List ℕ → List Piece → List Piece
 literal_before [] ps = ps
 literal_before (x ∷ xs) ps = literal (x ∷ xs) ∷ ps
 
--- a text cut at its first `${`: the literal before it, the piece up to the next `}`, and the pieces of the rest
-abbrev pub cut_at : (List ℕ → Option (List Piece)) → List ℕ → Option (List ℕ × List ℕ) → Option (List Piece)
-cut_at rest s None = Some (literal_before s [])
-cut_at rest s (Some p) = option_and_then (λ q. option_and_then (λ x. option_map (λ ps. literal_before p.0 (x ∷ ps)) (rest q.1)) (piece_of q.0)) (around (codes "}") p.1)
+-- a text up to its first piece: none, a wrong one, or the text before it, the piece, and the text after it
+pub data FirstPiece : Type 0 where
+  no_piece : FirstPiece
+  wrong_piece : FirstPiece
+  first_piece : List ℕ → Piece → List ℕ → FirstPiece
+
+abbrev pub piece_between : List ℕ → Option Piece → List ℕ → FirstPiece
+piece_between before None rest = wrong_piece
+piece_between before (Some p) rest = first_piece before p rest
+
+-- the piece begins at `before` and goes up to the next `}`
+abbrev pub closed : List ℕ → Option (List ℕ × List ℕ) → FirstPiece
+closed before None = wrong_piece
+closed before (Some q) = piece_between before (piece_of q.0) q.1
+
+abbrev pub opened : Option (List ℕ × List ℕ) → FirstPiece
+opened None = no_piece
+opened (Some p) = closed p.0 (around (codes "}") p.1)
+
+abbrev pub first_piece_of : List ℕ → FirstPiece
+first_piece_of s = opened (around (codes "${") s)
+
+abbrev pub with_rest : (List ℕ → Option (List Piece)) → List ℕ → FirstPiece → Option (List Piece)
+with_rest rest s no_piece = Some (literal_before s [])
+with_rest rest s wrong_piece = None
+with_rest rest s (first_piece before p after) = option_map (λ ps. literal_before before (p ∷ ps)) (rest after)
 
 -- the pieces of a text with at most n openings; none where a `}` lacks or a piece is wrong
 abbrev pub cut : ℕ → List ℕ → Option (List Piece)
 cut zero s = Some (literal_before s [])
-cut (suc n) s = cut_at (cut n) s (around (codes "${") s)
+cut (suc n) s = with_rest (cut n) s (first_piece_of s)
 
 abbrev pub pieces_of : List ℕ → Option (List Piece)
 pieces_of s = cut (length s) s
+
+-- a variable's name: 1 or more letters and digits
+abbrev pub is_variable_name : List ℕ → Bool
+is_variable_name s = not (length s == 0) && list_all is_ascii_alphanumeric s
