@@ -10,9 +10,9 @@ use Rattle.std.proofs.lemmas.Slice.Eq.{bytes_eq-Decides}
 use Rattle.cdk_language.specs.Application.{find_field, filled, ref_of}
 use Rattle.cdk_language.specs.Expression as expression
 use Rattle.cdk_language.specs.Expression.{Expression, Expressions, Fields, view, expressions_view}
-use Rattle.cdk_language.specs.Sub.{Piece, literal, name, attribute, around, piece_of, cut, cut_at, literal_before}
+use Rattle.cdk_language.proofs.Pieces.{pieces-literal, pieces-wrong, pieces-step}
+use Rattle.cdk_language.specs.Sub.{Piece, literal, name, attribute, literal_before, pieces_of, first_piece_of, first_piece, no_piece, wrong_piece}
 use Rattle.cdk_language.specs.declared.expression.Expr.{Expr}
-use Rattle.cdk_doc.proofs.Around.{around_shorter}
 use Rattle.cdk_doc.specs.Steps.{before, literal_then, piece_expression, Variable, variables_of}
 
 pub before-push : (es : List Expr) (e : Expr) (rest : Expressions) → before es (expression.expression (view e) rest) ≡ before (es ++ e ∷ []) rest
@@ -58,101 +58,45 @@ filled-literal : (fs : Fields) (s : List ℕ) (ps : List Piece) → filled fs (l
 filled-literal fs [] ps = refl
 filled-literal fs (x ∷ xs) ps = refl
 
--- all pieces, of which some are found
+-- all pieces as expressions
 abbrev pub whole_of : Fields → Option (List Piece) → Option Expressions
 whole_of fs ps = option_map (filled fs) ps
 
 -- the pieces of the text are those found, and then those of the rest
 abbrev pub Found : Fields → Option Expressions → List Expr → List ℕ → Type 0
-Found fs all found rest = (n : ℕ) × (length rest ≤ n) × (all ≡ option_map (before found) (whole_of fs (cut n rest)))
+Found fs all found rest = all ≡ option_map (before found) (whole_of fs (pieces_of rest))
 
-pub none_found : (fs : Fields) (s : List ℕ) → Found fs (whole_of fs (cut (length s) s)) [] s
-none_found fs s = (length s, omega arith, sym (as_is (whole_of fs (cut (length s) s))))
-  where
-    as_is : (o : Option Expressions) → option_map (before []) o ≡ o
-    as_is None = refl
-    as_is (Some es) = refl
+pub none_found : (fs : Fields) (o : Option Expressions) → o ≡ option_map (before []) o
+none_found fs None = refl
+none_found fs (Some es) = refl
 
 -- one piece more
 more : (fs : Fields) (ps : Option (List Piece)) (lit : List ℕ) (x : Piece) (e : Expr) (found pushed : List Expr)
-    → ((r : Expressions) → before pushed r ≡ before found (literal_then lit r)) → piece_expression fs x ≡ view e
+    → ((r : Expressions) → before pushed r ≡ before found (literal_then lit r)) → view e ≡ piece_expression fs x
     → option_map (before found) (whole_of fs (option_map (λ qs. literal_before lit (x ∷ qs)) ps)) ≡ option_map (before (pushed ++ e ∷ [])) (whole_of fs ps)
 more fs None lit x e found pushed push is = refl
 more fs (Some ps) lit x e found pushed push is =
     ap (λ r. Some (before found r)) (filled-literal fs lit (x ∷ ps))
     ∙ ap (λ r. Some (before found (literal_then lit r))) (filled-piece fs x ps)
-    ∙ ap (λ v. Some (before found (literal_then lit (expression.expression v (filled fs ps))))) is
+    ∙ ap (λ v. Some (before found (literal_then lit (expression.expression v (filled fs ps))))) (sym is)
     ∙ ap Some (sym (push (expression.expression (view e) (filled fs ps))))
     ∙ ap Some (before-push pushed e (filled fs ps))
 
-of_piece : (fs : Fields) (p : Option Piece) (v : Expression) → option_map (piece_expression fs) p ≡ Some v → (x : Piece) × (p ≡ Some x) × (piece_expression fs x ≡ v)
-of_piece fs None v e = cc
-of_piece fs (Some x) v e = (x, refl, cc)
+pub piece_found : (fs : Fields) (all : Option Expressions) (found pushed : List Expr) (rest lit : List ℕ) (p : Piece) (after : List ℕ) (e : Expr)
+    → Found fs all found rest → first_piece_of rest ≡ first_piece lit p after → view e ≡ piece_expression fs p
+    → ((r : Expressions) → before pushed r ≡ before found (literal_then lit r)) → Found fs all (pushed ++ e ∷ []) after
+piece_found fs all found pushed rest lit p after e so_far cuts is push =
+    so_far ∙ ap (λ o. option_map (before found) (whole_of fs o)) (pieces-step rest lit p after cuts) ∙ more fs (pieces_of after) lit p e found pushed push is
 
-no_piece : (fs : Fields) (p : Option Piece) → option_map (piece_expression fs) p ≡ None → p ≡ None
-no_piece fs None e = refl
-no_piece fs (Some x) e = cc
-
--- the next cut of a text with n openings at most
-abbrev next_cut : ℕ → List ℕ → List ℕ → Option (List ℕ × List ℕ) → Option (List Piece)
-next_cut m lit opened closed = option_and_then (λ q. option_and_then (λ x. option_map (λ ps. literal_before lit (x ∷ ps)) (cut m q.1)) (piece_of q.0)) closed
-
-pub piece_found : (fs : Fields) (all : Option Expressions) (found pushed : List Expr) (rest lit opened piece next : List ℕ) (e : Expr)
-    → Found fs all found rest → around (codes "${") rest ≡ Some (lit, opened) → around (codes "}") opened ≡ Some (piece, next)
-    → option_map (piece_expression fs) (piece_of piece) ≡ Some (view e) → ((r : Expressions) → before pushed r ≡ before found (literal_then lit r))
-    → Found fs all (pushed ++ e ∷ []) next
-piece_found fs all found pushed rest lit opened piece next e so_far cuts closes is push =
-    let a = around_shorter (codes "${") rest lit opened (omega arith) cuts in
-    let b = around_shorter (codes "}") opened piece next (omega arith) closes in
-    at_most so_far.0 so_far.1 so_far.2 a b
-  where
-    at_most : (n : ℕ) → length rest ≤ n → all ≡ option_map (before found) (whole_of fs (cut n rest)) → length opened < length rest → length next < length opened → Found fs all (pushed ++ e ∷ []) next
-    at_most zero within was a b = absurd (omega arith)
-    at_most (suc m) within was a b =
-        let x = of_piece fs (piece_of piece) (view e) is in (
-          m,
-          omega arith,
-          was ∙ ap (λ o. option_map (before found) (whole_of fs (cut_at (cut m) rest o))) cuts
-          ∙ ap (λ o. option_map (before found) (whole_of fs (next_cut m lit opened o))) closes
-          ∙ ap (λ o. option_map (before found) (whole_of fs (option_and_then (λ y. option_map (λ ps. literal_before lit (y ∷ ps)) (cut m next)) o))) x.1
-          ∙ more fs (cut m next) lit x.0 e found pushed push x.2,
-        )
-
-pub not_closed : (fs : Fields) (all : Option Expressions) (found : List Expr) (rest lit opened : List ℕ)
-    → Found fs all found rest → around (codes "${") rest ≡ Some (lit, opened) → around (codes "}") opened ≡ None → all ≡ None
-not_closed fs all found rest lit opened so_far cuts closes =
-    let a = around_shorter (codes "${") rest lit opened (omega arith) cuts in at_most so_far.0 so_far.1 so_far.2 a
-  where
-    at_most : (n : ℕ) → length rest ≤ n → all ≡ option_map (before found) (whole_of fs (cut n rest)) → length opened < length rest → all ≡ None
-    at_most zero within was a = absurd (omega arith)
-    at_most (suc m) within was a =
-        was ∙ ap (λ o. option_map (before found) (whole_of fs (cut_at (cut m) rest o))) cuts
-        ∙ ap (λ o. option_map (before found) (whole_of fs (next_cut m lit opened o))) closes
-
-pub wrong_piece : (fs : Fields) (all : Option Expressions) (found : List Expr) (rest lit opened piece next : List ℕ)
-    → Found fs all found rest → around (codes "${") rest ≡ Some (lit, opened) → around (codes "}") opened ≡ Some (piece, next)
-    → option_map (piece_expression fs) (piece_of piece) ≡ None → all ≡ None
-wrong_piece fs all found rest lit opened piece next so_far cuts closes is =
-    let a = around_shorter (codes "${") rest lit opened (omega arith) cuts in at_most so_far.0 so_far.1 so_far.2 a
-  where
-    at_most : (n : ℕ) → length rest ≤ n → all ≡ option_map (before found) (whole_of fs (cut n rest)) → length opened < length rest → all ≡ None
-    at_most zero within was a = absurd (omega arith)
-    at_most (suc m) within was a =
-        was ∙ ap (λ o. option_map (before found) (whole_of fs (cut_at (cut m) rest o))) cuts
-        ∙ ap (λ o. option_map (before found) (whole_of fs (next_cut m lit opened o))) closes
-        ∙ ap (λ o. option_map (before found) (whole_of fs (option_and_then (λ y. option_map (λ ps. literal_before lit (y ∷ ps)) (cut m next)) o))) (no_piece fs (piece_of piece) is)
+pub wrong_found : (fs : Fields) (all : Option Expressions) (found : List Expr) (rest : List ℕ) → Found fs all found rest → first_piece_of rest ≡ wrong_piece → all ≡ None
+wrong_found fs all found rest so_far wrong = so_far ∙ ap (λ o. option_map (before found) (whole_of fs o)) (pieces-wrong rest wrong)
 
 -- the last literal
 pub all_found : (fs : Fields) (all : Option Expressions) (found pushed : List Expr) (rest : List ℕ)
-    → Found fs all found rest → around (codes "${") rest ≡ None → ((r : Expressions) → before pushed r ≡ before found (literal_then rest r)) → all ≡ Some (expressions_view pushed)
-all_found fs all found pushed rest so_far cuts push = at_most so_far.0 so_far.2
-  where
-    last : option_map (before found) (whole_of fs (Some (literal_before rest []))) ≡ Some (expressions_view pushed)
-    last = ap (λ r. Some (before found r)) (filled-literal fs rest []) ∙ ap Some (sym (push expression.no_expressions)) ∙ ap Some (before-none pushed)
-
-    at_most : (n : ℕ) → all ≡ option_map (before found) (whole_of fs (cut n rest)) → all ≡ Some (expressions_view pushed)
-    at_most zero was = was ∙ last
-    at_most (suc m) was = was ∙ ap (λ o. option_map (before found) (whole_of fs (cut_at (cut m) rest o))) cuts ∙ last
+    → Found fs all found rest → first_piece_of rest ≡ no_piece → ((r : Expressions) → before pushed r ≡ before found (literal_then rest r)) → all ≡ Some (expressions_view pushed)
+all_found fs all found pushed rest so_far none push =
+    so_far ∙ ap (λ o. option_map (before found) (whole_of fs o)) (pieces-literal rest none)
+    ∙ ap (λ r. Some (before found r)) (filled-literal fs rest []) ∙ ap Some (sym (push expression.no_expressions)) ∙ ap Some (before-none pushed)
 
 -- the Concat of the pieces
 pub concat_of : (fs : Fields) (ps : Option (List Piece)) (es : Expressions) → whole_of fs ps ≡ Some es → option_map (λ qs. expression.concat (filled fs qs)) ps ≡ Some (expression.concat es)

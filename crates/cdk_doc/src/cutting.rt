@@ -1,16 +1,16 @@
 // The pieces of a text with variables (`Fn::Sub` of the CloudFormation reference), as expressions.
-ghost use Rattle.std.specs.Prelude.{◌≡◌, ◌<◌, length, option_map, IfOk, OnOk};
+ghost use Rattle.std.specs.Prelude.{◌≡◌, IfOk, OnOk};
 ghost use Rattle.std.specs.Option.{unwrap_or};
 ghost use Rattle.cdk_language.specs.Application.{pseudo_of as pseudo_in, ref_of as reference_in, find_field, sub_of as substituted_in};
 ghost use Rattle.cdk_language.specs.Expression.{Expressions, view};
-ghost use Rattle.cdk_language.specs.Sub.{around as cut_around, is_attribute as is_attribute_text, piece_of as piece_in};
+ghost use Rattle.cdk_language.specs.SubView.{piece_view};
 ghost use Rattle.cdk_doc.specs.Gives.{Gives};
 ghost use Rattle.cdk_doc.specs.Steps.{before, literal_then, piece_expression, variables_of};
 
 use crate::copying::{Copies, copy_of};
 use crate::error::ReadError;
 use cdk_base::{List, Text};
-use cdk_language::{Expr, Pseudo};
+use cdk_language::{Expr, FirstPiece, Pseudo, SubPiece, first_piece};
 use std::alloc::{AllocError, Global};
 use std::collections::BTreeMap;
 
@@ -55,25 +55,6 @@ pub fn reference_of(alloc: Global, name: &str) -> Result<Expr, AllocError>
     }
 }
 
-fn is_attribute(text: &str) -> bool
-    ensures { result ≡ is_attribute_text text.now }
-{
-    for byte in text.as_bytes() {
-        if !byte.is_ascii_alphanumeric() && *byte != b'.' {
-            return false;
-        }
-    }
-    !text.is_empty()
-}
-
-/// What stands before the first mark, and what stands after it.
-fn around<'t>(text: &'t str, mark: &str) -> Option<(&'t str, &'t str)>
-    requires { 0 < length mark.now }
-    ensures { option_map (λ p. (p.0.now, p.1.now)) result ≡ cut_around mark.now text.now }
-{
-    text.split_once(mark)
-}
-
 /// The expression of a variable, or else what `Ref` of its name is.
 fn variable_of(alloc: Global, copies: &mut Copies, name: &str, variables: &Variables) -> Result<Expr, AllocError>
     ensures { IfOk result (λ e. view e ≡ unwrap_or (find_field name.now (variables_of variables.now.entries)) (reference_in name.now)) }
@@ -85,27 +66,19 @@ fn variable_of(alloc: Global, copies: &mut Copies, name: &str, variables: &Varia
 }
 
 /// The expression of what stands between `${` and `}`.
-fn piece_of(alloc: Global, copies: &mut Copies, piece: &str, variables: &Variables) -> Result<Expr, ReadError>
-    ensures { Gives view result (option_map (piece_expression (variables_of variables.now.entries)) (piece_in piece.now)) }
+fn expression_in(alloc: Global, copies: &mut Copies, piece: SubPiece<'_>, variables: &Variables) -> Result<Expr, AllocError>
+    ensures { IfOk result (λ e. view e ≡ piece_expression (variables_of variables.now.entries) (piece_view piece.entry)) }
 {
-    if let Some(kept) = piece.strip_prefix("!") {
-        let literal = format!(in alloc; "${{{kept}}}")?;
-        return Ok(Expr::Text(Text::from_string(literal)));
-    }
-    match around(piece, ".") {
-        Some((path, attribute)) => {
-            if path.is_empty() || !is_attribute(attribute) {
-                return Err(ReadError::Shape);
-            }
+    match piece {
+        SubPiece::Kept(kept) => {
+            let literal = format!(in alloc; "${{{kept}}}")?;
+            Ok(Expr::Text(Text::from_string(literal)))
+        }
+        SubPiece::Name(name) => variable_of(alloc, copies, name, variables),
+        SubPiece::Attribute(path, attribute) => {
             let path = Text::new(alloc, path)?;
             let attribute = Text::new(alloc, attribute)?;
             Ok(Expr::GetAtt(path, attribute))
-        }
-        None => {
-            if piece.is_empty() {
-                return Err(ReadError::Shape);
-            }
-            Ok(variable_of(alloc, copies, piece, variables)?)
         }
     }
 }
@@ -126,14 +99,18 @@ pub fn substituted(alloc: Global, copies: &mut Copies, text: &str, variables: &V
 {
     let mut found = List::new(alloc);
     let mut rest = text;
-    while let Some((literal, opened)) = around(rest, "${") {
-        let Some((piece, next)) = around(opened, "}") else {
-            return Err(ReadError::Shape);
-        };
-        push_literal(alloc, &mut found, literal)?;
-        found.push(piece_of(alloc, copies, piece, variables)?)?;
-        rest = next;
+    'pieces: loop {
+        match first_piece(rest) {
+            FirstPiece::Literal => {
+                push_literal(alloc, &mut found, rest)?;
+                return Ok(Expr::Concat(found));
+            }
+            FirstPiece::Wrong => return Err(ReadError::Shape),
+            FirstPiece::Piece { before, piece, after } => {
+                push_literal(alloc, &mut found, before)?;
+                found.push(expression_in(alloc, copies, piece, variables)?)?;
+                rest = after;
+            }
+        }
     }
-    push_literal(alloc, &mut found, rest)?;
-    Ok(Expr::Concat(found))
 }

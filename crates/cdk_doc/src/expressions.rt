@@ -2,9 +2,8 @@
 ghost use Rattle.std.specs.Prelude.{◌≡◌, ◌≢◌, [], ◌∷◌, length, option_map, option_and_then, MatchOption};
 ghost use Rattle.serde_json.specs.Find.{as_integer, as_str};
 ghost use Rattle.serde_json.specs.View.{view as json_view, number_view, items_view, members_view};
-ghost use Rattle.cdk_language.specs.Application.{expression_of as expression_in, expressions_of as expressions_in, fields_of as fields_in, form_of as form_in, get_att_of as get_att_in, context_of as context_in_json, join_of as join_in, select_of as select_in, split_of as split_in, choice_of as choice_in, find_in_map_of as find_in_map_in, concat_of as concat_in, substituted_of as substituted_in, ref_of as reference_in, has_form_key as has_form_key_in, sub_of};
+ghost use Rattle.cdk_language.specs.Application.{expression_of as expression_in, expressions_of as expressions_in, fields_of as fields_in, form_of as form_in, get_att_of as get_att_in, context_of as context_in_json, join_of as join_in, select_of as select_in, split_of as split_in, choice_of as choice_in, find_in_map_of as find_in_map_in, concat_of as concat_in, substituted_of as substituted_in, ref_of as reference_in, sub_of};
 ghost use Rattle.cdk_language.specs.Expression.{whole, lazy, import_value, view, expressions_view, fields_view};
-ghost use Rattle.cdk_base.specs.Json.{is_form_key as is_form_key_in};
 ghost use Rattle.cdk_doc.specs.Gives.{Gives};
 ghost use Rattle.cdk_doc.specs.Steps.{variables_of as variables_in};
 
@@ -12,27 +11,10 @@ use crate::copying::Copies;
 use crate::cutting::{Variables, reference_of, substituted};
 use crate::error::ReadError;
 use cdk_base::{List, Map, Text, Value};
+use cdk_findings::members::has_form_key;
 use cdk_language::{Expr, Field};
 use serde_json::Number;
 use std::alloc::Global;
-
-fn is_form_key(key: &str) -> bool
-    ensures { result ≡ is_form_key_in key.now }
-{
-    key == "Ref" || key.starts_with("Fn::") || key.starts_with("CDK::")
-}
-
-/// Whether a key of the object may only be that of a form.
-fn has_form_key(members: &Map) -> bool
-    ensures { result ≡ has_form_key_in (members_view members.now.entries) }
-{
-    for (key, _member) in members.iter() {
-        if is_form_key(key.as_str()) {
-            return true;
-        }
-    }
-    false
-}
 
 fn whole_of(number: &Number) -> Result<Expr, ReadError>
     ensures { Gives view result (option_map whole (as_integer (number_view number.now))) }
