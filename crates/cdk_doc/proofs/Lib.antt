@@ -1,3 +1,4 @@
+pub mod ConditionLemmas
 pub mod Pieces
 pub mod Reading
 pub mod Seen

@@ -1,5 +1,5 @@
 // The expression that a JSON value is: one function for each form.
-ghost use Rattle.std.specs.Prelude.{◌≡◌, ◌≢◌, [], ◌∷◌, length, option_map, option_and_then, MatchOption};
+ghost use Rattle.std.specs.Prelude.{◌≡◌, option_map, option_and_then};
 ghost use Rattle.serde_json.specs.Find.{as_integer, as_str};
 ghost use Rattle.serde_json.specs.View.{view as json_view, number_view, items_view, members_view};
 ghost use Rattle.cdk_language.specs.Application.{expression_of as expression_in, expressions_of as expressions_in, fields_of as fields_in, form_of as form_in, get_att_of as get_att_in, context_of as context_in_json, join_of as join_in, select_of as select_in, split_of as split_in, choice_of as choice_in, find_in_map_of as find_in_map_in, concat_of as concat_in, substituted_of as substituted_in, ref_of as reference_in, sub_of};
@@ -10,6 +10,7 @@ ghost use Rattle.cdk_doc.specs.Steps.{variables_of as variables_in};
 use crate::copying::Copies;
 use crate::cutting::{Variables, reference_of, substituted};
 use crate::error::ReadError;
+use crate::items::{one_of, three_of, two_of};
 use cdk_base::{List, Map, Text, Value};
 use cdk_findings::members::has_form_key;
 use cdk_language::{Expr, Field};
@@ -160,39 +161,6 @@ fn lazy_of(alloc: Global, value: &Value) -> Result<Expr, ReadError>
     match value.as_str() {
         Some(s) => Ok(Expr::Lazy(Text::new(alloc, s)?)),
         None => Err(ReadError::Shape),
-    }
-}
-
-/// The item, where there is one alone.
-fn one_of(items: &Vec<Value>) -> Option<&Value>
-    ensures { MatchOption result (length items.now.items ≢ 1)
-        (λ v. items.now.items ≡ v.now ∷ []) }
-{
-    match items.as_slice() {
-        [only] => Some(only),
-        _ => None,
-    }
-}
-
-/// The two items, where there are two.
-fn two_of(items: &Vec<Value>) -> Option<(&Value, &Value)>
-    ensures { MatchOption result (length items.now.items ≢ 2)
-        (λ p. items.now.items ≡ p.0.now ∷ p.1.now ∷ []) }
-{
-    match items.as_slice() {
-        [first, second] => Some((first, second)),
-        _ => None,
-    }
-}
-
-/// The three items, where there are three.
-fn three_of(items: &Vec<Value>) -> Option<(&Value, &Value, &Value)>
-    ensures { MatchOption result (length items.now.items ≢ 3)
-        (λ p. items.now.items ≡ p.0.now ∷ p.1.now ∷ p.2.now ∷ []) }
-{
-    match items.as_slice() {
-        [first, second, third] => Some((first, second, third)),
-        _ => None,
     }
 }
 

@@ -1,11 +1,14 @@
 //! The application of a JSON document: the builder, the reader of bytes, and settings.
 #![tactic(auto)]
 
+mod conditions;
 mod copying;
 mod cutting;
 mod error;
 mod expressions;
+mod items;
 
+pub use conditions::read_condition;
 pub use copying::{Copies, copy_of};
 pub use cutting::{Variables, reference_of, substituted};
 pub use error::ReadError;
