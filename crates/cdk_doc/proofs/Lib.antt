@@ -1,4 +1,5 @@
 pub mod ConditionLemmas
+pub mod ConstructLemmas
 pub mod Pieces
 pub mod Reading
 pub mod Seen

@@ -8,6 +8,7 @@ use std::alloc::{AllocError, Global};
 
 /// How many expressions may still be put in. Variables may double what they hold at each level, so that a small
 /// document would fill the machine; no application that can be accepted comes near.
+#[derive(Drop)]
 pub struct Copies {
     left: u32,
 }
