@@ -11,5 +11,5 @@ mod settings;
 mod shapes;
 mod texts;
 
-// pub use first::first_finding;
-// pub use settings::first_setting_finding;
+pub use first::first_finding;
+pub use settings::first_setting_finding;

@@ -54,7 +54,7 @@ ref_of s = unwrap_or (option_map expression.pseudo (pseudo_of s)) (expression.re
 
 abbrev pub find_field : List ℕ → Fields → Option Expression
 find_field k expression.no_fields = None
-find_field k (expression.field l e fs) = if bytes_eq l k then Some e else find_field k fs
+find_field k (expression.field l e fs) = if bytes_eq k l then Some e else find_field k fs
 
 -- the pieces of a Sub's text: a name is its expression among the variables, else what `Ref` of it is
 abbrev pub filled : Fields → List Piece → Expressions
