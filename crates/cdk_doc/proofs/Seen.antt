@@ -1,5 +1,8 @@
 -- What expressions are seen as, level by level.
-use Rattle.std.proofs.Common.{◌≡◌, ℕ, zero, suc, ◌<◌, ◌==◌, List, Bool, true, false, rules, arith}
+use Rattle.std.proofs.Common.{◌≡◌, ℕ, zero, suc, ◌<◌, ◌==◌, List, Bool, true, false, String as BaseString, Global, string_bytes, rules, arith}
+use Rattle.serde_json.specs.Data.{string as json_string}
+use Rattle.serde_json.specs.View.{view as json_view}
+use Rattle.serde_json.specs.declared.value.Value.{String as JsonString, the_lemmas as json_lemmas}
 use Rattle.cdk_base.specs.declared.text.Text.{Text as BaseText}
 use Rattle.cdk_language.specs.Expression as expression
 use Rattle.cdk_language.specs.Expression.{view, expressions_view}
@@ -14,3 +17,6 @@ view-Concat es = search (rules, the_lemmas)
 pub not_none : (n : ℕ) → (n == 0) ≡ false → 0 < n
 not_none zero h = cc
 not_none (suc n) h = omega arith
+
+pub view-String : (s : BaseString Global) → json_view (JsonString s) ≡ json_string (string_bytes s)
+view-String s = search (rules, json_lemmas)
