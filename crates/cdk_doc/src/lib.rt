@@ -10,7 +10,7 @@ mod error;
 mod expressions;
 mod heads;
 mod items;
-mod reading;
+mod reader;
 mod settings;
 
 pub use conditions::read_condition;
@@ -19,5 +19,5 @@ pub use copying::{Copies, copy_of};
 pub use cutting::{Variables, reference_of, substituted};
 pub use error::ReadError;
 pub use expressions::{fields_of, read_expression};
-pub use reading::read_app;
+pub use reader::read_app;
 pub use settings::with_settings;
