@@ -6,7 +6,6 @@ use Rattle.std.specs.Cmp.Lexicographic.{slice_cmp}
 use Rattle.std.specs.Map.{lookup}
 use Rattle.std.specs.BTreeMap.{is_at}
 use Rattle.std.proofs.lemmas.Map.Text.{is_eq-slice_cmp}
-use Rattle.std.proofs.lemmas.Slice.Eq.{bytes_eq-Decides}
 use Rattle.cdk_language.specs.Application.{find_field, filled, ref_of}
 use Rattle.cdk_language.specs.Expression as expression
 use Rattle.cdk_language.specs.Expression.{Expression, Expressions, Fields, view, expressions_view}
@@ -34,18 +33,7 @@ pub view-lookup : (x : List ℕ) (vs : List Variable) → option_map view (looku
 view-lookup x [] = refl
 view-lookup x (v ∷ vs) =
     found_or (is_eq (slice_cmp nat_cmp x (string_bytes v.0))) v.1 _ _ (view-lookup x vs)
-    ∙ ap (λ b. cond b (Some (view v.1)) (find_field x (variables_of vs))) (is_eq-slice_cmp x (string_bytes v.0) ∙ swapped x (string_bytes v.0))
-  where
-    same : (a b : Bool) → (a ≡ true → b ≡ true) → (b ≡ true → a ≡ true) → a ≡ b
-    same true b h k = sym (h refl)
-    same false true h k = k refl
-    same false false h k = refl
-
-    swapped : (xs ys : List ℕ) → bytes_eq xs ys ≡ bytes_eq ys xs
-    swapped xs ys =
-        let one = bytes_eq-Decides xs ys in
-        let two = bytes_eq-Decides ys xs in
-        same (bytes_eq xs ys) (bytes_eq ys xs) (λ e. two.1 (sym (one.0 e))) (λ e. one.1 (sym (two.0 e)))
+    ∙ ap (λ b. cond b (Some (view v.1)) (find_field x (variables_of vs))) (is_eq-slice_cmp x (string_bytes v.0))
 
 -- ---- pieces
 
