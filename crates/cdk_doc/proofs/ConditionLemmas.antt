@@ -1,9 +1,9 @@
 -- Reading conditions one after another.
-use Rattle.std.proofs.Common.{◌≡◌, ℕ, List, [], ◌∷◌, ◌++◌, Option, Some, None, option_map, option_and_then, length, ◌≢◌, Bool, true, false, cond, codes, bytes_eq, refl, ap, sym, ◌∙◌}
-use Rattle.serde_json.specs.Data.{Data, array, object, no_members, member}
+use Rattle.std.proofs.Common.{◌≡◌, List, [], ◌∷◌, ◌++◌, Option, Some, None, option_map, option_and_then, length, ◌≢◌, refl, ap, ◌∙◌}
+use Rattle.serde_json.specs.Data.{array}
 use Rattle.serde_json.specs.View.{items_view}
 use Rattle.serde_json.specs.declared.value.Value.{Value}
-use Rattle.cdk_language.specs.Application.{equals_of, negated_of, condition_of}
+use Rattle.cdk_language.specs.Application.{equals_of, negated_of}
 use Rattle.cdk_language.specs.Condition.{Condition, Conditions, no_conditions, condition, view, conditions_view}
 use Rattle.cdk_language.specs.declared.condition.Cond.{Cond}
 

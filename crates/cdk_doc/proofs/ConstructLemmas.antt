@@ -1,11 +1,10 @@
 -- Reading constructs one after another.
-use Rattle.std.proofs.Common.{◌≡◌, ℕ, List, [], ◌∷◌, ◌++◌, Option, Some, None, option_map, option_and_then, refl, ap, sym, ◌∙◌}
+use Rattle.std.proofs.Common.{◌≡◌, List, [], ◌∷◌, ◌++◌, Option, Some, None, option_map, option_and_then, refl, ap, ◌∙◌}
 use Rattle.serde_json.specs.Data.{Data, null, boolean, number, string, array, object}
 use Rattle.serde_json.specs.Find.{as_object}
 use Rattle.cdk_language.specs.Application.{construct_of}
-use Rattle.cdk_language.specs.Construct.{Construct, Constructs, no_constructs, child, node_view, nodes_view, node_step}
-use Rattle.cdk_language.specs.declared.construct.Node.{Node, roll-Node, fold-roll-Node}
-use Rattle.cdk_language.specs.declared.construct.Node.TheOpen.{Node-F}
+use Rattle.cdk_language.specs.Construct.{Construct, Constructs, no_constructs, child, node_view, nodes_view}
+use Rattle.cdk_language.specs.declared.construct.Node.{Node}
 
 -- the constructs, before the rest
 abbrev pub nodes_before : List Node → Constructs → Constructs

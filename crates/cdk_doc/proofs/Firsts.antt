@@ -1,7 +1,6 @@
 -- The first finding, and where there is none.
-use Rattle.std.proofs.Common.{◌≡◌, List, [], ◌∷◌, Option, Some, None, refl, sym, ◌∙◌}
-use Rattle.serde_json.specs.Data.{Data}
-use Rattle.cdk_language.specs.Findings.{findings, first}
+use Rattle.std.proofs.Common.{◌≡◌, List, [], ◌∷◌, Some, None, refl}
+use Rattle.cdk_language.specs.Findings.{first}
 use Rattle.cdk_language.specs.declared.finding.Finding.{Finding}
 
 pub none_found : (fs : List Finding) → None ≡ first fs → fs ≡ []

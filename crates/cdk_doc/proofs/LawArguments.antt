@@ -1,6 +1,6 @@
 -- Forms without expressions inside, where nothing is found in their arguments.
-use Rattle.std.proofs.Common.{◌≡◌, ℕ, ◌<◌, ◌≤◌, List, [], suc, Bool, true, false, Option, Some, None, option_map, option_and_then, refl, ap, ◌∙◌, arith}
-use Rattle.serde_json.specs.Data.{Data, null, boolean, number, string, array, object, Items, no_items, item}
+use Rattle.std.proofs.Common.{◌≡◌, ℕ, List, suc, Bool, false, Option, Some, None, refl, arith}
+use Rattle.serde_json.specs.Data.{Data, null, boolean, number, string, array, object, no_items, item}
 use Rattle.serde_json.specs.Find.{as_str}
 use Rattle.cdk_language.specs.Application.{get_att_of, context_of, sub_of}
 use Rattle.cdk_language.specs.Expression as expression

@@ -1,5 +1,5 @@
 -- What the constructs of a kind have, where nothing is found in their members.
-use Rattle.std.proofs.Common.{◌≡◌, ℕ, List, [], ◌∷◌, Bool, true, false, cond, codes, Option, Some, None, option_map, option_and_then, refl, sym, ap, ◌∙◌, subst}
+use Rattle.std.proofs.Common.{◌≡◌, ℕ, List, [], Bool, true, false, cond, codes, Option, Some, None, option_map, option_and_then, refl, ap, ◌∙◌, subst}
 use Rattle.std.specs.Prelude.{◌||◌}
 use Rattle.serde_json.specs.Data.{Data, null, boolean, number, string, array, object, Members, no_members, member}
 use Rattle.serde_json.specs.Find.{get_member, as_str, as_object}
@@ -17,7 +17,6 @@ use Rattle.cdk_language.specs.declared.schema.Frame.{Frame}
 use Rattle.cdk_language.specs.declared.schema.Frame.TheVariants as frames
 use Rattle.cdk_language.specs.declared.schema.KindName.{KindName}
 use Rattle.cdk_language.specs.declared.schema.KindName.TheVariants as kinds
-use Rattle.cdk_language.specs.declared.schema.Role.{Role}
 use Rattle.cdk_language.specs.declared.schema.Role.TheVariants as roles
 use Rattle.cdk_language.specs.declared.schema.Schema.{Schema}
 use Rattle.cdk_language.specs.declared.schema.Within.TheVariants as within

@@ -1,12 +1,12 @@
 -- A condition, where nothing is found in its place.
-use Rattle.std.proofs.Common.{◌≡◌, ℕ, ◌+◌, ◌<◌, List, [], ◌∷◌, suc, not, Bool, true, false, codes, Option, Some, None, option_map, option_and_then, refl, sym, ap, ◌∙◌, arith}
-use Rattle.serde_json.specs.Data.{Data, null, boolean, number, string, array, object, Items, no_items, item, Members, no_members, member}
+use Rattle.std.proofs.Common.{◌≡◌, ℕ, ◌+◌, [], suc, Bool, false, codes, refl, arith}
+use Rattle.serde_json.specs.Data.{Data, null, boolean, number, string, array, object, Items, no_items, item, no_members, member}
 use Rattle.serde_json.specs.Find.{as_str}
 use Rattle.cdk_base.specs.Marker.{has_marker}
 use Rattle.cdk_language.specs.Application.{expression_of, equals_of, condition_of, conditions_of, conditions_from, negated_of}
 use Rattle.cdk_language.specs.Condition as condition
 use Rattle.cdk_language.specs.Condition.{Condition, Conditions}
-use Rattle.cdk_language.specs.Findings.{in_items, in_members}
+use Rattle.cdk_language.specs.Findings.{in_items}
 use Rattle.cdk_language.specs.Schema.{is, items_count}
 use Rattle.cdk_language.specs.declared.schema.Frame.TheVariants as frames
 use Rattle.cdk_language.specs.declared.schema.Role.TheVariants as roles

@@ -1,9 +1,9 @@
 -- A document without findings has an application.
-use Rattle.std.proofs.Common.{◌≡◌, ℕ, ◌+◌, List, [], ◌∷◌, Bool, true, false, cond, codes, inl, inr, bytes_eq, Option, Some, None, option_map, option_and_then, refl, sym, ap, ◌∙◌, subst}
+use Rattle.std.proofs.Common.{◌≡◌, ℕ, ◌+◌, List, [], Bool, true, false, cond, codes, inl, inr, bytes_eq, Option, Some, None, option_and_then, refl, subst}
 use Rattle.std.specs.Prelude.{◌||◌}
 use Rattle.std.proofs.lemmas.Slice.Eq.{bytes_eq-Decides}
 use Rattle.serde_json.specs.Data.{Data, null, boolean, number, string, array, object, Items, no_items, item, Members, no_members, member}
-use Rattle.serde_json.specs.Find.{get_member, as_str, as_object}
+use Rattle.serde_json.specs.Find.{get_member}
 use Rattle.cdk_base.specs.Marker.{has_marker}
 use Rattle.cdk_language.specs.Application.{text_at, head_in, body_in, construct_in, construct_of, children_in, constructs_of, constructs_from, root_in, application_of}
 use Rattle.cdk_language.specs.Construct as construct
@@ -16,10 +16,10 @@ use Rattle.cdk_language.specs.declared.schema.KindName.{KindName}
 use Rattle.cdk_language.specs.declared.schema.KindName.TheVariants as kinds
 use Rattle.cdk_language.specs.declared.schema.Role.TheVariants as roles
 use Rattle.cdk_language.specs.declared.schema.Schema.{Schema}
-use Rattle.cdk_doc.proofs.LawPlaces.{Found, IsCleanAt, clean, first_item, rest_items, first_member, rest_members, mapped, both, then, along, or_false, nothing_there}
+use Rattle.cdk_doc.proofs.LawPlaces.{Found, IsCleanAt, clean, first_item, rest_items, first_member, rest_members, both, then, or_false, nothing_there}
 use Rattle.cdk_doc.proofs.LawMembers.{member_clean, there, needed_text}
 use Rattle.cdk_doc.proofs.LawHeads.{IsAllowed, allowed, head_found}
-use Rattle.cdk_doc.proofs.LawBodies.{Whole, body_found}
+use Rattle.cdk_doc.proofs.LawBodies.{body_found}
 
 -- ---- what each kind may have
 

@@ -1,25 +1,22 @@
 -- An expression, where nothing is found in its place.
-use Rattle.std.proofs.Common.{◌≡◌, ℕ, ◌+◌, ◌<◌, List, [], ◌∷◌, suc, not, Bool, true, false, cond, codes, Option, Some, None, option_map, option_and_then, refl, sym, ap, ◌∙◌, subst, arith}
+use Rattle.std.proofs.Common.{◌≡◌, ℕ, ◌+◌, List, [], suc, not, Bool, true, false, cond, codes, Option, Some, option_map, option_and_then, refl, ap, ◌∙◌, arith}
 use Rattle.std.specs.Prelude.{◌||◌, ◌&&◌}
-use Rattle.std.specs.List.{list_any}
-use Rattle.std.specs.Str.{bytes_eq}
 use Rattle.std.proofs.lemmas.Slice.Eq.{bytes_eq-Decides}
-use Rattle.serde_json.specs.Data.{Num, Data, null, boolean, number, string, array, object, Items, no_items, item, Members, no_members, member}
+use Rattle.serde_json.specs.Data.{Data, null, boolean, number, string, array, object, Items, no_items, item, Members, no_members, member}
 use Rattle.serde_json.specs.Find.{as_str, as_number, as_u64}
 use Rattle.cdk_base.specs.Json.{is_form_key}
 use Rattle.cdk_base.specs.Marker.{has_marker}
-use Rattle.cdk_language.specs.Application.{expression_of, expressions_of, fields_of, form_of, has_form_key, ref_of, get_att_of, context_of, join_of, select_of, split_of, choice_of, find_in_map_of, concat_of, substituted_of, sub_of}
+use Rattle.cdk_language.specs.Application.{expression_of, expressions_of, fields_of, form_of, has_form_key, ref_of, join_of, select_of, split_of, choice_of, find_in_map_of, concat_of, substituted_of, sub_of}
 use Rattle.cdk_language.specs.Expression as expression
 use Rattle.cdk_language.specs.Expression.{Expression, Fields}
 use Rattle.cdk_language.specs.Findings.{in_items, in_members}
 use Rattle.cdk_language.specs.Schema.{is, is_form, is_form_name, is_barred, is_filled, items_count, is_wrong_sub_text, is_no_object}
-use Rattle.cdk_language.specs.Sub.{pieces_of, is_variable_name}
-use Rattle.cdk_language.specs.declared.schema.Frame.{Frame}
+use Rattle.cdk_language.specs.Sub.{is_variable_name}
 use Rattle.cdk_language.specs.declared.schema.Frame.TheVariants as frames
 use Rattle.cdk_language.specs.declared.schema.Role.{Role}
 use Rattle.cdk_language.specs.declared.schema.Role.TheVariants as roles
 use Rattle.cdk_language.specs.declared.schema.Within.{Within}
-use Rattle.cdk_doc.proofs.LawPlaces.{Found, IsCleanAt, Clean, clean, first_item, rest_items, first_member, rest_members, mapped, both, then, along, not_not, and_true, false_true, whole_found, text_found, such_text_found, index_found, too_many, by_test, nothing_there}
+use Rattle.cdk_doc.proofs.LawPlaces.{Found, IsCleanAt, clean, first_item, rest_items, first_member, rest_members, mapped, both, then, along, not_not, and_true, false_true, whole_found, text_found, such_text_found, index_found, too_many, by_test, nothing_there}
 use Rattle.cdk_doc.proofs.LawArguments.{get_att_found, context_found, sub_found}
 
 -- the places where an expression stands

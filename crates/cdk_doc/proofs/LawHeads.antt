@@ -1,9 +1,9 @@
 -- What every construct has, where nothing is found in its members.
-use Rattle.std.proofs.Common.{◌≡◌, ℕ, ◌+◌, List, [], ◌∷◌, Bool, true, false, cond, nat_lt, codes, ◌⊎◌, inl, inr, Option, Some, None, option_map, option_and_then, refl, sym, ap, ◌∙◌, subst}
-use Rattle.serde_json.specs.Data.{Num, unsigned, negative, float, Data, null, boolean, number, string, array, object, Items, no_items, item, Members}
+use Rattle.std.proofs.Common.{◌≡◌, ℕ, ◌+◌, List, [], ◌∷◌, Bool, false, cond, codes, ◌⊎◌, inl, inr, Option, Some, None, option_map, option_and_then, refl, ap, subst}
+use Rattle.serde_json.specs.Data.{unsigned, negative, float, Data, null, boolean, number, string, array, object, Items, no_items, item, Members}
 use Rattle.serde_json.specs.Find.{get_member, as_str, as_array, as_object}
 use Rattle.cdk_base.specs.Marker.{has_marker}
-use Rattle.cdk_language.specs.Application.{text_at, texts_of, to_most, priority_of, entry_in, entries_of, if_given, head_in, context_in}
+use Rattle.cdk_language.specs.Application.{text_at, texts_of, priority_of, entry_in, entries_of, if_given, head_in, context_in}
 use Rattle.cdk_language.specs.Construct.{AspectEntry, Head}
 use Rattle.cdk_language.specs.Findings.{in_items, in_members}
 use Rattle.cdk_language.specs.Schema.{member_role, in_schema_2, lacks}
@@ -13,7 +13,7 @@ use Rattle.cdk_language.specs.declared.schema.Role.{Role}
 use Rattle.cdk_language.specs.declared.schema.Role.TheVariants as roles
 use Rattle.cdk_language.specs.declared.schema.Schema.{Schema}
 use Rattle.cdk_language.specs.declared.schema.Schema.TheVariants as schemas
-use Rattle.cdk_doc.proofs.LawPlaces.{Found, IsCleanAt, clean, first_item, rest_items, mapped, both, then, along, or_false, text_found, nothing_there}
+use Rattle.cdk_doc.proofs.LawPlaces.{Found, IsCleanAt, clean, first_item, rest_items, both, then, or_false, text_found, nothing_there}
 use Rattle.cdk_doc.proofs.LawMembers.{member_clean, there, needed_text}
 
 -- a member that may stand in the role, or not at all

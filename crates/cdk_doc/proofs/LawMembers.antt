@@ -1,5 +1,5 @@
 -- A member of an object, where nothing is found in the object.
-use Rattle.std.proofs.Common.{◌≡◌, ℕ, List, [], ◌∷◌, not, Bool, true, false, cond, Ordering, Less, Equal, Greater, is_eq, nat_cmp, codes, Option, Some, None, option_and_then, refl, sym, ap, ◌∙◌, subst}
+use Rattle.std.proofs.Common.{◌≡◌, ℕ, List, [], not, false, Ordering, Less, Equal, Greater, is_eq, nat_cmp, Option, Some, None, option_and_then, refl, sym, ap, ◌∙◌, subst}
 use Rattle.std.specs.Cmp.Lexicographic.{slice_cmp}
 use Rattle.std.specs.Option.{is_some}
 use Rattle.std.specs.Ordering.{match_ordering}
@@ -12,9 +12,8 @@ use Rattle.cdk_language.specs.Application.{text_at}
 use Rattle.cdk_language.specs.Findings.{in_members}
 use Rattle.cdk_language.specs.Schema.{member_role, lacks}
 use Rattle.cdk_language.specs.declared.schema.Frame.{Frame}
-use Rattle.cdk_language.specs.declared.schema.Role.{Role}
 use Rattle.cdk_language.specs.declared.schema.Role.TheVariants as roles
-use Rattle.cdk_doc.proofs.LawPlaces.{Found, IsCleanAt, first_member, rest_members, along, text_found, nothing_there, not_not}
+use Rattle.cdk_doc.proofs.LawPlaces.{Found, IsCleanAt, first_member, rest_members, along, text_found}
 
 here_or_later : (o : Ordering) (frame : Frame) (k l : List ℕ) (e d : Data) (later : Option Data) → slice_cmp nat_cmp k l ≡ o → match_ordering o later (Some e) later ≡ Some d
     → IsCleanAt (has_marker l) (member_role frame l) e → (later ≡ Some d → IsCleanAt (has_marker k) (member_role frame k) d) → IsCleanAt (has_marker k) (member_role frame k) d

@@ -1,8 +1,8 @@
 -- What a place without findings says of its value.
-use Rattle.std.proofs.Common.{◌≡◌, ℕ, ◌+◌, ◌<◌, List, [], ◌∷◌, ◌++◌, map, not, Bool, true, false, cond, suc, nat_lt, decimal, Option, Some, None, option_map, option_and_then, refl, sym, ap, ◌∙◌, subst, arith}
+use Rattle.std.proofs.Common.{◌≡◌, ℕ, ◌+◌, ◌<◌, List, [], ◌∷◌, ◌++◌, map, not, Bool, true, false, cond, nat_lt, decimal, Option, Some, option_map, option_and_then, refl, ap, ◌∙◌}
 use Rattle.std.specs.Prelude.{◌||◌, ◌&&◌}
 use Rattle.std.proofs.lemmas.Bool.{lt-ltb}
-use Rattle.serde_json.specs.Data.{Num, unsigned, negative, float, Data, null, boolean, number, string, array, object, Items, no_items, item, Members, no_members, member}
+use Rattle.serde_json.specs.Data.{Num, unsigned, negative, float, Data, null, boolean, number, string, array, object, Items, item, Members, member}
 use Rattle.cdk_base.specs.Marker.{has_marker}
 use Rattle.serde_json.specs.Find.{as_str, as_integer, as_number, as_u64, is_float}
 use Rattle.cdk_base.specs.declared.code.Code.{Code}

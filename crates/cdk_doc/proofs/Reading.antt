@@ -1,5 +1,5 @@
 -- Reading a list of values one after another.
-use Rattle.std.proofs.Common.{◌≡◌, ℕ, List, [], ◌∷◌, ◌++◌, Option, Some, None, option_map, option_and_then, map, length, ◌≢◌, String, Global, string_bytes, string_cmp, nat_cmp, Less, Greater, Bool, true, false, cond, codes, bytes_eq, is_some, Result, refl, ap, sym, ◌∙◌, subst}
+use Rattle.std.proofs.Common.{◌≡◌, ℕ, List, [], ◌∷◌, ◌++◌, Option, Some, None, option_map, option_and_then, length, ◌≢◌, Bool, true, false, cond, codes, bytes_eq, is_some, Result, refl, ap, sym, ◌∙◌, subst}
 use Rattle.std.specs.Option.{MatchOption}
 use Rattle.serde_json.specs.Data.{Data, null, boolean, number, string, array, object, Items, no_items, item, Members, no_members, member}
 use Rattle.serde_json.specs.Find.{as_str}

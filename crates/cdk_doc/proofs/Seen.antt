@@ -1,5 +1,5 @@
 -- What expressions are seen as, level by level.
-use Rattle.std.proofs.Common.{◌≡◌, ℕ, zero, suc, ◌<◌, ◌==◌, List, Bool, true, false, String as BaseString, Global, string_bytes, rules, arith}
+use Rattle.std.proofs.Common.{◌≡◌, ℕ, zero, suc, ◌<◌, ◌==◌, List, false, String as BaseString, Global, string_bytes, rules, arith}
 use Rattle.serde_json.specs.Data.{string as json_string}
 use Rattle.serde_json.specs.View.{view as json_view}
 use Rattle.serde_json.specs.declared.value.Value.{String as JsonString, the_lemmas as json_lemmas}

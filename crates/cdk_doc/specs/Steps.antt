@@ -1,5 +1,5 @@
 -- Parts of what is read, put before the rest of it (own).
-use Rattle.std.specs.Prelude.{ℕ, List, [], ◌∷◌, map, String, string_bytes}
+use Rattle.std.specs.Prelude.{ℕ, List, [], ◌∷◌, String, string_bytes}
 use Rattle.std.specs.Option.{unwrap_or}
 use Rattle.std.specs.declared.alloc.Global.{Global}
 use Rattle.cdk_language.specs.Application.{ref_of, find_field}

@@ -51,7 +51,11 @@ fn parameter_form_of(name: &str) -> Option<ParameterForm>
 }
 
 /// The properties of a resource: none where none are given.
-fn properties_of(alloc: Global, copies: &mut Copies, value: Option<&Value>) -> Result<Expr, ReadError>
+fn properties_of(
+    alloc: Global,
+    copies: &mut Copies,
+    value: Option<&Value>,
+) -> Result<Expr, ReadError>
     ensures { Gives view result (properties_in (data_view value.entry)) }
 {
     let Some(value) = value else {
@@ -63,7 +67,11 @@ fn properties_of(alloc: Global, copies: &mut Copies, value: Option<&Value>) -> R
     }
 }
 
-fn expression_at(alloc: Global, copies: &mut Copies, value: Option<&Value>) -> Result<Expr, ReadError>
+fn expression_at(
+    alloc: Global,
+    copies: &mut Copies,
+    value: Option<&Value>,
+) -> Result<Expr, ReadError>
     ensures { Gives view result (option_and_then expression_in (data_view value.entry)) }
 {
     match value {
@@ -72,7 +80,11 @@ fn expression_at(alloc: Global, copies: &mut Copies, value: Option<&Value>) -> R
     }
 }
 
-fn condition_at(alloc: Global, copies: &mut Copies, value: Option<&Value>) -> Result<Cond, ReadError>
+fn condition_at(
+    alloc: Global,
+    copies: &mut Copies,
+    value: Option<&Value>,
+) -> Result<Cond, ReadError>
     ensures { Gives condition.view result (option_and_then condition_in (data_view value.entry)) }
 {
     match value {
@@ -104,7 +116,13 @@ fn resource_in(alloc: Global, copies: &mut Copies, members: &Map) -> Result<Kind
     let condition = optional_text(alloc, members, "condition")?;
     let deletion = policy_of(text_at(members, "deletionPolicy"));
     let replace = policy_of(text_at(members, "updateReplacePolicy"));
-    Ok(Kind::Resource(Resource { resource_type, properties, condition, deletion, replace }))
+    Ok(Kind::Resource(Resource {
+        resource_type,
+        properties,
+        condition,
+        deletion,
+        replace,
+    }))
 }
 
 fn parameter_in(alloc: Global, members: &Map) -> Result<Kind, ReadError>
@@ -118,7 +136,11 @@ fn parameter_in(alloc: Global, members: &Map) -> Result<Kind, ReadError>
     };
     let default = optional_text(alloc, members, "default")?;
     let description = optional_text(alloc, members, "description")?;
-    Ok(Kind::Parameter(Parameter { form, default, description }))
+    Ok(Kind::Parameter(Parameter {
+        form,
+        default,
+        description,
+    }))
 }
 
 fn output_in(alloc: Global, copies: &mut Copies, members: &Map) -> Result<Kind, ReadError>
@@ -128,11 +150,21 @@ fn output_in(alloc: Global, copies: &mut Copies, members: &Map) -> Result<Kind, 
     let description = optional_text(alloc, members, "description")?;
     let export = optional_text(alloc, members, "exportName")?;
     let condition = optional_text(alloc, members, "condition")?;
-    Ok(Kind::Output(Output { value, description, export, condition }))
+    Ok(Kind::Output(Output {
+        value,
+        description,
+        export,
+        condition,
+    }))
 }
 
 /// What a construct of the kind is.
-pub fn kind_of(alloc: Global, copies: &mut Copies, members: &Map, kind: &str) -> Result<Kind, ReadError>
+pub fn kind_of(
+    alloc: Global,
+    copies: &mut Copies,
+    members: &Map,
+    kind: &str,
+) -> Result<Kind, ReadError>
     ensures { Gives kind_view result (body_in_members (members_view members.now.entries) kind.now) }
 {
     if kind == "stage" {

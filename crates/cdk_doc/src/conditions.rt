@@ -91,7 +91,11 @@ fn conditions_of(alloc: Global, copies: &mut Copies, value: &Value) -> Result<Li
 }
 
 #[cycle(conditions)]
-fn conditions_from(alloc: Global, copies: &mut Copies, items: &Vec<Value>) -> Result<List<Cond>, ReadError>
+fn conditions_from(
+    alloc: Global,
+    copies: &mut Copies,
+    items: &Vec<Value>,
+) -> Result<List<Cond>, ReadError>
     ensures { Gives conditions_view result (conditions_from_items (items_view items.now.items)) }
 {
     let mut found = List::new(alloc);

@@ -18,12 +18,31 @@ use std::alloc::Global;
 fn node_of(head: Head, kind: Kind, children: List<Node>) -> Node
     ensures { node_view result ≡ construct (head_view head) (kind_view kind) (nodes_view children) }
 {
-    let Head { id, context, aspects, depends, logical } = head;
-    Node { id, kind, context, aspects, depends, logical, children }
+    let Head {
+        id,
+        context,
+        aspects,
+        depends,
+        logical,
+    } = head;
+    Node {
+        id,
+        kind,
+        context,
+        aspects,
+        depends,
+        logical,
+        children,
+    }
 }
 
 /// The construct of the members, its children being read.
-fn construct_with(alloc: Global, copies: &mut Copies, members: &Map, children: List<Node>) -> Result<Node, ReadError>
+fn construct_with(
+    alloc: Global,
+    copies: &mut Copies,
+    members: &Map,
+    children: List<Node>,
+) -> Result<Node, ReadError>
     ensures { Gives node_view result (construct_in_members (members_view members.now.entries) (nodes_view children)) }
 {
     let Some(id) = text_at(members, "id") else {
@@ -72,7 +91,11 @@ fn constructs_of(alloc: Global, copies: &mut Copies, value: &Value) -> Result<Li
 }
 
 #[cycle(constructs)]
-fn constructs_from(alloc: Global, copies: &mut Copies, items: &Vec<Value>) -> Result<List<Node>, ReadError>
+fn constructs_from(
+    alloc: Global,
+    copies: &mut Copies,
+    items: &Vec<Value>,
+) -> Result<List<Node>, ReadError>
     ensures { Gives nodes_view result (constructs_from_items (items_view items.now.items)) }
 {
     let mut found = List::new(alloc);

@@ -94,7 +94,11 @@ fn copy_boxed(alloc: Global, copies: &mut Copies, e: &Box<Expr>) -> Result<Box<E
 }
 
 #[cycle(copy)]
-fn copy_items(alloc: Global, copies: &mut Copies, items: &List<Expr>) -> Result<List<Expr>, AllocError>
+fn copy_items(
+    alloc: Global,
+    copies: &mut Copies,
+    items: &List<Expr>,
+) -> Result<List<Expr>, AllocError>
     ensures { IfOk result (λ copied. expressions_view copied ≡ expressions_view items.now) }
 {
     let mut copied = List::new(alloc);
@@ -105,7 +109,11 @@ fn copy_items(alloc: Global, copies: &mut Copies, items: &List<Expr>) -> Result<
 }
 
 #[cycle(copy)]
-fn copy_fields(alloc: Global, copies: &mut Copies, fields: &List<Field>) -> Result<List<Field>, AllocError>
+fn copy_fields(
+    alloc: Global,
+    copies: &mut Copies,
+    fields: &List<Field>,
+) -> Result<List<Field>, AllocError>
     ensures { IfOk result (λ copied. fields_view copied ≡ fields_view fields.now) }
 {
     let mut copied = List::new(alloc);

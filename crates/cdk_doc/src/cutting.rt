@@ -56,7 +56,12 @@ pub fn reference_of(alloc: Global, name: &str) -> Result<Expr, AllocError>
 }
 
 /// The expression of a variable, or else what `Ref` of its name is.
-fn variable_of(alloc: Global, copies: &mut Copies, name: &str, variables: &Variables) -> Result<Expr, AllocError>
+fn variable_of(
+    alloc: Global,
+    copies: &mut Copies,
+    name: &str,
+    variables: &Variables,
+) -> Result<Expr, AllocError>
     ensures { IfOk result (λ e. view e ≡ unwrap_or (find_field name.now (variables_of variables.now.entries)) (reference_in name.now)) }
 {
     match variables.get(name) {
@@ -66,7 +71,12 @@ fn variable_of(alloc: Global, copies: &mut Copies, name: &str, variables: &Varia
 }
 
 /// The expression of what stands between `${` and `}`.
-fn expression_in(alloc: Global, copies: &mut Copies, piece: SubPiece<'_>, variables: &Variables) -> Result<Expr, AllocError>
+fn expression_in(
+    alloc: Global,
+    copies: &mut Copies,
+    piece: SubPiece<'_>,
+    variables: &Variables,
+) -> Result<Expr, AllocError>
     ensures { IfOk result (λ e. view e ≡ piece_expression (variables_of variables.now.entries) (piece_view piece.entry)) }
 {
     match piece {
@@ -94,7 +104,12 @@ fn push_literal(alloc: Global, found: &mut List<Expr>, literal: &str) -> Result<
 }
 
 /// The Concat of a text's pieces, each variable's expression put in at each use.
-pub fn substituted(alloc: Global, copies: &mut Copies, text: &str, variables: &Variables) -> Result<Expr, ReadError>
+pub fn substituted(
+    alloc: Global,
+    copies: &mut Copies,
+    text: &str,
+    variables: &Variables,
+) -> Result<Expr, ReadError>
     ensures { Gives view result (substituted_in text.now (variables_of variables.now.entries)) }
 {
     let mut found = List::new(alloc);
@@ -106,7 +121,11 @@ pub fn substituted(alloc: Global, copies: &mut Copies, text: &str, variables: &V
                 return Ok(Expr::Concat(found));
             }
             FirstPiece::Wrong => return Err(ReadError::Shape),
-            FirstPiece::Piece { before, piece, after } => {
+            FirstPiece::Piece {
+                before,
+                piece,
+                after,
+            } => {
                 push_literal(alloc, &mut found, before)?;
                 found.push(expression_in(alloc, copies, piece, variables)?)?;
                 rest = after;

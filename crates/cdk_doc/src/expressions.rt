@@ -26,6 +26,15 @@ fn whole_of(number: &Number) -> Result<Expr, ReadError>
     }
 }
 
+/// The expression of a value by the language of applications. It answers `Shape` exactly where the value is none, and
+/// `Memory` where memory ran out or the texts with variables would put in more than 16,000,000 expressions.
+pub fn expression_of(alloc: Global, value: &Value) -> Result<Expr, ReadError>
+    ensures { Gives view result (expression_in (json_view value.now)) }
+{
+    let mut copies = Copies::new();
+    read_expression(alloc, &mut copies, value)
+}
+
 /// The expression that a value is.
 #[cycle(read)]
 pub fn read_expression(alloc: Global, copies: &mut Copies, value: &Value) -> Result<Expr, ReadError>
@@ -47,7 +56,11 @@ pub fn read_expression(alloc: Global, copies: &mut Copies, value: &Value) -> Res
 }
 
 #[cycle(read)]
-fn expressions_of(alloc: Global, copies: &mut Copies, items: &Vec<Value>) -> Result<List<Expr>, ReadError>
+fn expressions_of(
+    alloc: Global,
+    copies: &mut Copies,
+    items: &Vec<Value>,
+) -> Result<List<Expr>, ReadError>
     ensures { Gives expressions_view result (expressions_in (items_view items.now.items)) }
 {
     let mut found = List::new(alloc);
@@ -59,7 +72,11 @@ fn expressions_of(alloc: Global, copies: &mut Copies, items: &Vec<Value>) -> Res
 
 /// The fields of an object, which has each key once.
 #[cycle(read)]
-pub fn fields_of(alloc: Global, copies: &mut Copies, members: &Map) -> Result<List<Field>, ReadError>
+pub fn fields_of(
+    alloc: Global,
+    copies: &mut Copies,
+    members: &Map,
+) -> Result<List<Field>, ReadError>
     ensures { Gives fields_view result (fields_in (members_view members.now.entries)) }
 {
     let mut found = List::new(alloc);
@@ -333,7 +350,12 @@ fn substituted_of(alloc: Global, copies: &mut Copies, value: &Value) -> Result<E
 
 /// The text with the members as its variables, all of which are read, also those that it doesn't use.
 #[cycle(read)]
-fn substituted_with(alloc: Global, copies: &mut Copies, text: &str, members: &Map) -> Result<Expr, ReadError>
+fn substituted_with(
+    alloc: Global,
+    copies: &mut Copies,
+    text: &str,
+    members: &Map,
+) -> Result<Expr, ReadError>
     ensures { Gives view result (option_and_then (sub_of text.now) (fields_in (members_view members.now.entries))) }
 {
     let variables = variables_of(alloc, copies, members)?;

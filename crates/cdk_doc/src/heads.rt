@@ -92,7 +92,11 @@ fn entry_in(alloc: Global, members: &Map) -> Result<Entry, ReadError>
     let priority = priority_of(member(members, "priority"))?;
     let name = Text::new(alloc, name)?;
     let with = with.clone()?;
-    Ok(Entry { name, with, priority })
+    Ok(Entry {
+        name,
+        with,
+        priority,
+    })
 }
 
 fn entry_of(alloc: Global, value: &Value) -> Result<Entry, ReadError>
@@ -147,5 +151,11 @@ pub fn head_of(alloc: Global, members: &Map, id: &str) -> Result<Head, ReadError
     let context = context_of(alloc, members)?;
     let logical = optional_text(alloc, members, "logicalId")?;
     let id = Text::new(alloc, id)?;
-    Ok(Head { id, context, aspects, depends, logical })
+    Ok(Head {
+        id,
+        context,
+        aspects,
+        depends,
+        logical,
+    })
 }

@@ -10,14 +10,15 @@ mod error;
 mod expressions;
 mod heads;
 mod items;
+mod law;
 mod reader;
 mod settings;
+#[cfg(test)]
+mod tests;
 
-pub use conditions::read_condition;
 pub use constructs::application_of;
-pub use copying::{Copies, copy_of};
-pub use cutting::{Variables, reference_of, substituted};
 pub use error::ReadError;
-pub use expressions::{fields_of, read_expression};
+pub use expressions::expression_of;
+pub use law::clean_document_has_application;
 pub use reader::read_app;
 pub use settings::with_settings;

@@ -14,7 +14,10 @@ fn not_json(alloc: Global) -> Fault
     ensures { IsNotJsonFault result }
 {
     match Text::new(alloc, "") {
-        Ok(place) => Fault::App { code: Code::NotJson, place },
+        Ok(place) => Fault::App {
+            code: Code::NotJson,
+            place,
+        },
         Err(_) => Fault::Memory,
     }
 }

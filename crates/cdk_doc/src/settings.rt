@@ -47,9 +47,27 @@ fn app_with(alloc: Global, app: App, settings: &[Setting]) -> Result<App, AllocE
     ensures { IfOk result (λ a. app_view a ≡ with_settings_laid (app_view app) settings.now) }
 {
     let App { root } = app;
-    let Node { id, kind, context, aspects, depends, logical, children } = root;
+    let Node {
+        id,
+        kind,
+        context,
+        aspects,
+        depends,
+        logical,
+        children,
+    } = root;
     let context = laid_over(alloc, context, settings)?;
-    Ok(App { root: Node { id, kind, context, aspects, depends, logical, children } })
+    Ok(App {
+        root: Node {
+            id,
+            kind,
+            context,
+            aspects,
+            depends,
+            logical,
+            children,
+        },
+    })
 }
 
 /// The application with the settings laid over its root's context, in their order: of two with one key the later

@@ -5,7 +5,7 @@ use Rattle.std.proofs.lemmas.List.{drop_more, drop_all}
 use Rattle.serde_json.specs.View.{view as json_view, items_view, members_view}
 use Rattle.serde_json.specs.Data.{no_members, member}
 use Rattle.serde_json.proofs.Views.{Entry, view-Array, view-Object}
-use Rattle.cdk_language.specs.Application.{expression_of, expressions_of, fields_of, form_of, sub_of, join_of, select_of, split_of, choice_of, find_in_map_of, substituted_of}
+use Rattle.cdk_language.specs.Application.{expression_of, expressions_of, fields_of, form_of, join_of, select_of, split_of, choice_of, find_in_map_of, substituted_of}
 use Rattle.cdk_doc.specs.Steps.{before}
 use Rattle.cdk_doc.proofs.Variables.{names, names-push, variables_before, goes_last_of, read_next_variable, all_variables_read, no_variable_before}
 use Rattle.cdk_doc.proofs.Reading.{gives, sub_with, no_form, none_left, read_next, all_read, fields_before, read_next_field, made, field_view-made, all_fields_read, no_join, no_select, no_split, no_choice, no_find_in_map, no_substituted}
@@ -56,7 +56,7 @@ variables_of-loop-key-init t c =
         all = is;
         same = ap names c.new-found.ensures.empty;
         so_far = no_variable_before (fields_of (members_view es)) ∙ ap (λ vs. option_map (variables_before vs) (fields_of (members_view es))) (sym c.new-found.ensures.empty)
-        ∙ ap (λ xs. option_map (variables_before c.new-found.result.entries) (fields_of (members_view xs))) is;
+            ∙ ap (λ xs. option_map (variables_before c.new-found.result.entries) (fields_of (members_view xs))) is;
       },
     )
 
