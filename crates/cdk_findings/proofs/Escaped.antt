@@ -1,7 +1,7 @@
 -- A character that needs no escape has none in its bytes.
-use Rattle.std.proofs.Common.{◌≡◌, ◌≢◌, ℕ, ◌+◌, ◌/◌, ◌%◌, ◌<◌, ◌≤◌, List, [], ◌∷◌, ◌++◌, Bool, true, false, cond, refl, sym, ap, ap₂, ◌∙◌, arith, nat_lt}
+use Rattle.std.proofs.Common.{◌≡◌, ◌≢◌, ℕ, ◌+◌, ◌/◌, ◌%◌, ◌≤◌, List, [], ◌∷◌, ◌++◌, Bool, true, false, cond, ap, ap₂, arith, nat_lt}
 use Rattle.std.specs.Char.{encode_utf8}
-use Rattle.std.proofs.lemmas.Bool.{ne_eqb, ltb-false}
+use Rattle.std.proofs.lemmas.Bool.{ne_eqb}
 use Rattle.cdk_base.specs.Pointer.{escape_byte, escape}
 
 other_byte : (x : ℕ) → x ≢ 126 → x ≢ 47 → escape_byte x ≡ x ∷ []

@@ -1,5 +1,5 @@
 -- The decimals of a number match no part of a marker's beginning.
-use Rattle.std.proofs.Common.{◌≡◌, ◌≢◌, ℕ, zero, suc, ◌^◌, ◌<◌, ◌≤◌, pos, negsuc, List, [], ◌∷◌, ◌++◌, length, eqb, Bool, true, false, cond, Option, Some, None, refl, sym, ap, ◌∙◌, arith}
+use Rattle.std.proofs.Common.{◌≡◌, ◌≢◌, ℕ, zero, suc, ◌^◌, ◌<◌, ◌≤◌, pos, negsuc, List, [], ◌∷◌, ◌++◌, length, eqb, Bool, true, false, cond, Some, None, refl, sym, ap, ◌∙◌, arith}
 use Rattle.std.specs.Prelude.{nat_lt, decimal}
 use Rattle.std.specs.Char.{digit_value}
 use Rattle.std.specs.Str.Parse.{AllDigits}
@@ -68,9 +68,12 @@ reads-number n (float x) h = reads-other n h
 -- so a number does to a run what ends it
 number_by : (n m : ℕ) (x : Num) (t : Bool) → eqb n 8 ≡ t → n ≤ 8 → Reads n no_literal m → Reads n (text_of (number x) ∷ []) m
 number_by n m x true e h r =
-    record { bound = r.bound; same = λ ps. let whole : n ≡ 8 = eqb-true n 8 e in
-      ap (λ k. is_marked_run (opening k) (text_of (number x) ∷ ps)) whole ∙ (reads-whole (text_of (number x) ∷ [])).same ps ∙ sym ((reads-whole no_literal).same ps)
-      ∙ sym (ap (λ k. is_marked_run (opening k) (no_literal ++ ps)) whole) ∙ r.same ps }
+    record {
+      bound = r.bound;
+      same = λ ps. let whole : n ≡ 8 = eqb-true n 8 e in
+          ap (λ k. is_marked_run (opening k) (text_of (number x) ∷ ps)) whole ∙ (reads-whole (text_of (number x) ∷ [])).same ps ∙ sym ((reads-whole no_literal).same ps)
+          ∙ sym (ap (λ k. is_marked_run (opening k) (no_literal ++ ps)) whole) ∙ r.same ps;
+    }
 number_by n m x false e h r =
     let ne : n ≢ 8 = eqb-false n 8 e in
     let part : n < 8 = omega arith in

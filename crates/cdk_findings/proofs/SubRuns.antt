@@ -1,5 +1,5 @@
 -- A run that goes on with the pieces of a Sub.
-use Rattle.std.proofs.Common.{◌≡◌, ◌≢◌, ℕ, ◌≤◌, List, [], ◌∷◌, ◌++◌, Bool, true, false, Option, Some, None, option_map, option_and_then, cond, length, Ordering, Less, Equal, Greater, nat_cmp, is_eq, bytes_eq, refl, sym, ap, ◌∙◌, append_assoc, append-nil}
+use Rattle.std.proofs.Common.{◌≡◌, ◌≢◌, ℕ, List, [], ◌∷◌, ◌++◌, Bool, true, false, Option, Some, None, option_map, option_and_then, cond, length, Ordering, Less, Equal, Greater, nat_cmp, is_eq, bytes_eq, refl, sym, ap, ◌∙◌, append_assoc, append-nil}
 use Rattle.std.specs.List.{list_any}
 use Rattle.std.specs.Prelude.{flat_map}
 use Rattle.std.specs.Cmp.Lexicographic.{slice_cmp}
@@ -11,7 +11,7 @@ use Rattle.serde_json.specs.View.{view, items_view}
 use Rattle.serde_json.specs.declared.value.Value.{Value}
 use Rattle.cdk_language.specs.Runs.{Literals, is_marked_run, piece_literals, sub_literals, no_literal, literals_of, substituted_literals, variable, variables_literals}
 use Rattle.cdk_language.specs.Schema.{is_barred_piece, are_wrong_pieces, is_wrong_sub_text}
-use Rattle.cdk_language.specs.Sub.{Piece, literal, name, is_variable_name, no_piece, wrong_piece, first_piece, first_piece_of, literal_before, pieces_of}
+use Rattle.cdk_language.specs.Sub.{Piece, name, is_variable_name, no_piece, wrong_piece, first_piece, first_piece_of, literal_before, pieces_of}
 use Rattle.cdk_language.specs.declared.schema.Within.TheVariants as within
 use Rattle.cdk_language.proofs.Pieces.{pieces-literal, pieces-wrong, pieces-step}
 use Rattle.cdk_findings.specs.Reads.{Reads, opening}

@@ -1,5 +1,5 @@
 -- How much of a marker's beginning the end of a run matches, and how literals that follow change that.
-use Rattle.std.specs.Prelude.{◌≡◌, ℕ, ◌+◌, ◌≤◌, ◌==◌, ◌||◌, List, [], ◌∷◌, ◌++◌, take, slice_index, Bool, codes, if◌then◌else◌, Option, Some, None}
+use Rattle.std.specs.Prelude.{◌≡◌, ℕ, ◌+◌, ◌≤◌, ◌==◌, ◌||◌, List, ◌++◌, take, slice_index, codes, if◌then◌else◌}
 use Rattle.cdk_language.specs.Runs.{Literals, is_marked_run}
 
 -- the first n bytes of `${Token[`

@@ -12,9 +12,10 @@ use cdk_base::{Code, Map, Text, Value, has_marker};
 use cdk_language::{Finding, Role};
 use std::alloc::{AllocError, Global};
 
-/// How many expressions are walked at most in search of runs. Subs may put in what doubles at each level: beyond this
-/// the answer is want of memory. An application within the limits on sizes and depths walks fewer than half as many.
-const MOST_WALKED: u64 = 64_000_000;
+/// How much is walked at most in search of runs, in bytes of texts and 16 for each expression. Subs may put in what
+/// doubles at each level: beyond this the answer is want of memory. An application within the limits on sizes and
+/// depth walks at most 32 times 16,000,000, and the names between `${` and `}`.
+const MOST_WALKED: u64 = 1_000_000_000;
 
 fn is_fraction(value: &Value) -> bool
     ensures { result ≡ spec_is_fraction (view value.now) }
@@ -35,7 +36,12 @@ fn is_marked_text(value: &Value) -> bool
 }
 
 /// The lowest code that is found at the value's own place.
-fn first_own(left: &mut u64, marked: bool, role: Role, value: &Value) -> Result<Option<Code>, AllocError>
+fn first_own(
+    left: &mut u64,
+    marked: bool,
+    role: Role,
+    value: &Value,
+) -> Result<Option<Code>, AllocError>
     ensures { IfOk result (λ code. code ≡ first (own marked role (view value.now))) }
 {
     if is_wrong(role, value) {

@@ -65,7 +65,11 @@ pub fn is_form(within: Within, members: &Map) -> bool
 fn is_condition_name(key: &str) -> bool
     ensures { result ≡ spec_is_condition_name key.now }
 {
-    key == "Fn::Equals" || key == "Fn::And" || key == "Fn::Or" || key == "Fn::Not" || key == "Condition"
+    key == "Fn::Equals"
+        || key == "Fn::And"
+        || key == "Fn::Or"
+        || key == "Fn::Not"
+        || key == "Condition"
 }
 
 /// Whether the object is a form of a condition.

@@ -9,6 +9,8 @@ mod roles;
 mod runs;
 mod settings;
 mod shapes;
+#[cfg(test)]
+mod tests;
 mod texts;
 
 pub use first::first_finding;

@@ -1,5 +1,5 @@
 // Runs of literals in Concats and Subs, byte by byte, without joining their texts.
-ghost use Rattle.std.specs.Prelude.{◌≡◌, ◌≤◌, ◌≢◌, ◌∷◌, [], ◌++◌, codes, false, length, IfOk, MatchOption};
+ghost use Rattle.std.specs.Prelude.{◌≡◌, ◌+◌, ◌<◌, ◌≤◌, ◌≢◌, ◌∷◌, [], ◌++◌, codes, false, length, IfOk, OnOk, OnErr, MatchOption};
 ghost use Rattle.serde_json.specs.View.{view, items_view, members_view};
 ghost use Rattle.serde_json.specs.Data.{boolean};
 ghost use Rattle.cdk_base.specs.Json.{text_of};
@@ -96,7 +96,11 @@ fn read_plain_sub(matched: usize, text: &str) -> usize
         match first_piece(rest) {
             FirstPiece::Literal => return read_text(matched, rest),
             FirstPiece::Wrong => return matched,
-            FirstPiece::Piece { before, piece, after } => {
+            FirstPiece::Piece {
+                before,
+                piece,
+                after,
+            } => {
                 matched = read_plain_piece(read_text(matched, before), piece);
                 rest = after;
             }
@@ -114,18 +118,34 @@ fn two_of(items: &Vec<Value>) -> Option<(&Value, &Value)>
     }
 }
 
-/// The run goes on with a value as a piece: with the pieces of a Concat or a Sub one by one, each of them taking one
-/// of what is left to walk.
+/// Takes 16 and the bytes of a text from what is left to walk, or is refused and takes nothing.
+fn spend(left: &mut u64, bytes: usize) -> Result<(), AllocError>
+    ensures spent { OnOk result (left.new + bytes + 16 ≡ left.old) }
+    ensures refused { OnErr result ((left.new ≡ left.old) × (left.old < bytes + 16)) }
+{
+    let Some(after_text) = left.checked_sub(bytes as u64) else {
+        return Err(AllocError);
+    };
+    let Some(after) = after_text.checked_sub(16) else {
+        return Err(AllocError);
+    };
+    *left = after;
+    Ok(())
+}
+
+/// The run goes on with a value as a piece: with the pieces of a Concat or a Sub one by one. What is left to walk falls
+/// at each, so this ends.
 #[cycle(runs)]
 fn read_value(left: &mut u64, matched: usize, value: &Value) -> Result<usize, AllocError>
     requires { matched ≤ 8 }
     ensures fewer { left.new ≤ left.old }
     ensures reads { IfOk result (λ m. Reads matched (literals_of (view value.now)) m) }
 {
-    let Some(fewer) = left.checked_sub(1) else {
-        return Err(AllocError);
+    let bytes = match value {
+        Value::String(text) => text.as_str().len(),
+        _ => 0,
     };
-    *left = fewer;
+    spend(left, bytes)?;
     match value {
         Value::Bool(truth) => Ok(read_truth(matched, *truth)),
         // the decimals of a number match no part of a marker's beginning
@@ -192,7 +212,10 @@ fn read_sub(left: &mut u64, matched: usize, value: &Value) -> Result<usize, Allo
     ensures reads { IfOk result (λ m. Reads matched (substituted_literals (view value.now)) m) }
 {
     match value {
-        Value::String(text) => Ok(read_plain_sub(matched, text.as_str())),
+        Value::String(text) => {
+            spend(left, text.as_str().len())?;
+            Ok(read_plain_sub(matched, text.as_str()))
+        }
         Value::Array(items) => {
             let Some((text, variables)) = two_of(items) else {
                 return Ok(read_other(matched));
@@ -203,6 +226,7 @@ fn read_sub(left: &mut u64, matched: usize, value: &Value) -> Result<usize, Allo
             let Some(text) = text.as_str() else {
                 return Ok(read_other(matched));
             };
+            spend(left, text.len())?;
             if is_wrong_sub_text(Within::Construct, text) {
                 return Ok(read_other(matched));
             }
@@ -213,7 +237,12 @@ fn read_sub(left: &mut u64, matched: usize, value: &Value) -> Result<usize, Allo
 }
 
 #[cycle(runs)]
-fn read_pieces(left: &mut u64, matched: usize, text: &str, variables: &Map) -> Result<usize, AllocError>
+fn read_pieces(
+    left: &mut u64,
+    matched: usize,
+    text: &str,
+    variables: &Map,
+) -> Result<usize, AllocError>
     requires bound { matched ≤ 8 }
     requires cut { spec_is_wrong_sub_text within.Construct text.now ≡ false }
     ensures fewer { left.new ≤ left.old }
@@ -225,7 +254,11 @@ fn read_pieces(left: &mut u64, matched: usize, text: &str, variables: &Map) -> R
         match first_piece(rest) {
             FirstPiece::Literal => return Ok(read_text(matched, rest)),
             FirstPiece::Wrong => return Ok(matched),
-            FirstPiece::Piece { before, piece, after } => {
+            FirstPiece::Piece {
+                before,
+                piece,
+                after,
+            } => {
                 matched = read_piece(left, read_text(matched, before), piece, variables)?;
                 rest = after;
             }
@@ -234,7 +267,12 @@ fn read_pieces(left: &mut u64, matched: usize, text: &str, variables: &Map) -> R
 }
 
 #[cycle(runs)]
-fn read_piece(left: &mut u64, matched: usize, piece: SubPiece<'_>, variables: &Map) -> Result<usize, AllocError>
+fn read_piece(
+    left: &mut u64,
+    matched: usize,
+    piece: SubPiece<'_>,
+    variables: &Map,
+) -> Result<usize, AllocError>
     requires { matched ≤ 8 }
     ensures fewer { left.new ≤ left.old }
     ensures reads { IfOk result (λ m. Reads matched (piece_literals (variables_literals (members_view variables.now.entries)) (piece_view piece.entry)) m) }

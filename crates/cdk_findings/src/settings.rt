@@ -24,7 +24,10 @@ fn place_of(alloc: Global, key: &str) -> Result<Text, AllocError>
 
 /// The first setting whose key or value holds the beginning of a marker, which is `LiteralMarker` at `=` and the key.
 /// None exactly where none does. The error is want of memory.
-pub fn first_setting_finding(alloc: Global, settings: &[Setting]) -> Result<Option<Finding>, AllocError>
+pub fn first_setting_finding(
+    alloc: Global,
+    settings: &[Setting],
+) -> Result<Option<Finding>, AllocError>
     ensures { IfOk result (λ f. f ≡ first (setting_findings settings.now)) }
 {
     for setting in settings {

@@ -44,6 +44,16 @@ pub too_long : unique_id (replicate 256 65 ∷ []) ≡ Some (replicate 240 65 ++
 unfolding block_words rounds compress hash_after digest_bytes md5
 too_long = refl
 
+-- the human part may be empty, so that the name is the hash, of `-/--`
+pub no_human_part : unique_id (codes "-" ∷ codes "--" ∷ []) ≡ Some (codes "ADB21D13")
+unfolding block_words rounds compress hash_after digest_bytes md5
+no_human_part = refl
+
+-- the output of a generated export
+pub generated_output : unique_id (codes "Exports" ∷ codes "Output{\"Fn::GetAtt\":[\"Bucket\",\"Arn\"]}" ∷ []) ≡ Some (codes "ExportsOutputFnGetAttBucketArn436138FE")
+unfolding block_words rounds compress hash_after digest_bytes md5
+generated_output = refl
+
 -- ---- exports
 
 pub whole_export : export_name (codes "Data") (codes "ExportsOutputRefQ") ≡ codes "Data:ExportsOutputRefQ"

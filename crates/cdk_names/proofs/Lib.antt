@@ -1,2 +1,4 @@
+pub mod Alphanumerics
 mod Examples
+pub mod FormLaws
 pub mod Parts

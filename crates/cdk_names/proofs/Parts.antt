@@ -1,6 +1,6 @@
 -- The steps of the code over the components: the text that is hashed, and the human part.
 use Rattle.std.proofs.lemmas.List.{length-take, take_all}
-use Rattle.std.proofs.Common.{◌≡◌, ℕ, zero, suc, ◌+◌, ◌-◌, ◌≤◌, List, [], ◌∷◌, ◌++◌, length, take, Bool, true, false, cond, nat_eq, not, refl, sym, ap, ap₂, ◌∙◌, arith, append_assoc, append-nil, Bor}
+use Rattle.std.proofs.Common.{◌≡◌, ℕ, zero, suc, ◌-◌, ◌≤◌, List, [], ◌∷◌, ◌++◌, length, take, Bool, true, false, cond, nat_eq, refl, sym, ap, ◌∙◌, arith, append-nil}
 use Rattle.std.specs.Prelude.{filter, flat_map}
 use Rattle.std.specs.List.{ends_with, join_with_byte}
 use Rattle.cdk_names.specs.Names.{is_visible, visible, is_shown, alphanumerics, unrepeated, unrepeated_after}

@@ -1,5 +1,5 @@
--- The forms of logical names (CloudFormation's template reference) and of stack names (its CreateStack),
--- and the name of a generated export (after AWS CDK; the cut is own).
+-- The forms of logical names (CloudFormation's template reference, AWS CDK's check) and of stack names (CloudFormation's
+-- CreateStack), and the name of a generated export (after AWS CDK; the cut is own).
 use Rattle.std.specs.Prelude.{ℕ, ◌-◌, ◌&&◌, ◌||◌, List, [], ◌∷◌, ◌++◌, length, drop, Bool, false, codes, nat_le, nat_eq}
 use Rattle.std.specs.Char.{is_ascii_alphabetic, is_ascii_alphanumeric}
 use Rattle.std.specs.List.{list_all}

@@ -1,4 +1,5 @@
 pub mod Forms
+pub mod Laws
 pub mod Names
 pub mod Steps
 pub mod Visible

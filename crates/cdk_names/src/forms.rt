@@ -26,7 +26,7 @@ fn all_in_stack_names(bytes: &[u8]) -> bool
 }
 
 /// Whether this is a logical name: a letter followed by letters and digits, 1 to 255 in all.
-/// Source: CloudFormation's template reference; the limit is its quota of names.
+/// Source: CloudFormation's template reference and its quota of 255; the letter at the start is AWS CDK's check.
 pub fn is_logical(s: &str) -> bool
     ensures { result ≡ spec_is_logical s.now }
 {

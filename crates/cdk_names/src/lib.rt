@@ -5,9 +5,16 @@ mod export;
 mod forms;
 mod hash;
 mod human;
+mod laws;
+#[cfg(test)]
+mod tests;
 mod unique;
 mod visible;
 
 pub use export::export_name;
 pub use forms::{is_logical, is_stack_name};
+pub use laws::{
+    export_names_fit, letter_first_is_logical, logical_names_are_alphanumeric,
+    stack_names_are_ascii, unique_ids_are_alphanumeric,
+};
 pub use unique::unique_id;

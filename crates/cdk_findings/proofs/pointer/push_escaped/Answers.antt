@@ -1,6 +1,5 @@
 use Rattle.std.proofs.Common.{◌≡◌, ℕ, List, ◌++◌, cond, Result, Ok, Err, is_ok, sym, ap, ◌∙◌}
 use Rattle.std.specs.Prelude.{OnOk, encode_utf8}
-use Rattle.std.proofs.Common.{string_bytes}
 use Rattle.cdk_findings.proofs.Escaped.{escape-char}
 use Rattle.cdk_findings.proofs.pointer.push_escaped.Goals as goal
 

@@ -1,12 +1,11 @@
-use Rattle.std.proofs.Common.{◌≡◌, [], ◌∷◌, Some, None, true, false, IfOk, sym, subst, ap, ◌∙◌, arith, rules}
+use Rattle.std.proofs.Common.{◌≡◌, Some, None, IfOk, sym, subst, ap, ◌∙◌, arith, rules}
 use Rattle.serde_json.specs.declared.number.Number.{Number}
 use Rattle.serde_json.specs.declared.value.Value as values
 use Rattle.serde_json.specs.declared.value.Value.{the_lemmas}
-use Rattle.serde_json.specs.Data.{array, object, number, item, no_items}
+use Rattle.serde_json.specs.Data.{array, number, item, no_items}
 use Rattle.serde_json.specs.View.{view, number_view, items_view, members_view}
 use Rattle.serde_json.proofs.Views.{view-Array, view-Object}
-use Rattle.cdk_language.specs.Runs.{no_literal, literals_of, sub_literals, substituted_literals, piece_literals, variables_literals}
-use Rattle.cdk_language.specs.Sub.{name, pieces_of}
+use Rattle.cdk_language.specs.Runs.{literals_of, substituted_literals, piece_literals, variables_literals}
 use Rattle.cdk_language.specs.SubView.{piece_view}
 use Rattle.cdk_language.proofs.Pieces.{after-shorter, after-text}
 use Rattle.cdk_findings.specs.Reads.{Reads}
@@ -25,14 +24,14 @@ pub read_piece-returns-in-Some-clause-reads : goal.read_piece-returns-in-Some-cl
 read_piece-returns-in-Some-clause-reads t c =
     let ms = members_view c.args.variables.now.entries in
     let e = ap (λ p. piece_literals (variables_literals ms) (piece_view p)) c.in-Name.is
-        ∙ name_found c.in-Name.name.now ms (Some (view c.in-Some.value.now)) (sym c.if-not-is_variable_name.ensures) (sym c.in-Some.ensures) in
+    ∙ name_found c.in-Name.name.now ms (Some (view c.in-Some.value.now)) (sym c.if-not-is_variable_name.ensures) (sym c.in-Some.ensures) in
     subst (λ x. IfOk c.read_value.result (λ m. Reads c.args.matched x m)) (sym e) c.read_value.ensures.reads
 
 pub read_piece-returns-in-None-clause-reads : goal.read_piece-returns-in-None-clause-reads
 read_piece-returns-in-None-clause-reads t c =
     let ms = members_view c.args.variables.now.entries in
     let e = ap (λ p. piece_literals (variables_literals ms) (piece_view p)) c.in-Name.is
-        ∙ name_found c.in-Name.name.now ms None (sym c.if-not-is_variable_name.ensures) (sym c.in-None.ensures) in
+    ∙ name_found c.in-Name.name.now ms None (sym c.if-not-is_variable_name.ensures) (sym c.in-None.ensures) in
     subst (λ x. Reads c.args.matched x c.read_other-in-None.result) (sym e) c.read_other-in-None.ensures
 
 pub read_pieces-returns-in-Literal-clause-reads : goal.read_pieces-returns-in-Literal-clause-reads
@@ -72,5 +71,5 @@ read_sub-returns-then-is_wrong_sub_text-clause-reads t c =
     let first = view c.in-Some.text.now in
     let inside = ap items_view c.in-Some.ensures ∙ ap (λ d. item first (item d no_items)) (ap view c.in-Object.is ∙ view-Object c.in-Object.members) in
     let e = ap substituted_literals (ap view c.in-Array.is ∙ view-Array c.in-Array.items ∙ ap array inside)
-        ∙ two_uncut first ms c.in-Some-as_str.text.now (sym c.in-Some-as_str.ensures) (uncut c.in-Some-as_str.text.now (sym c.if-is_wrong_sub_text.ensures)) in
+    ∙ two_uncut first ms c.in-Some-as_str.text.now (sym c.in-Some-as_str.ensures) (uncut c.in-Some-as_str.text.now (sym c.if-is_wrong_sub_text.ensures)) in
     subst (λ x. Reads c.args.matched x c.read_other-then-is_wrong_sub_text.result) (sym e) c.read_other-then-is_wrong_sub_text.ensures

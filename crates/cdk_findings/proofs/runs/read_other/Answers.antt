@@ -1,4 +1,4 @@
-use Rattle.std.proofs.Common.{◌≡◌, ◌<◌, ◌≢◌, sym, subst, arith}
+use Rattle.std.proofs.Common.{sym, subst, arith}
 use Rattle.cdk_language.specs.Runs.{no_literal}
 use Rattle.cdk_findings.specs.Reads.{Reads}
 use Rattle.cdk_findings.proofs.Opening.{reads-whole, reads-other}

@@ -1,10 +1,9 @@
-use Rattle.std.proofs.Common.{◌≡◌, [], true, false, sym, subst, ap, ◌∙◌}
-use Rattle.cdk_language.specs.Runs.{no_literal, sub_literals}
-use Rattle.cdk_language.specs.Sub.{pieces_of}
+use Rattle.std.proofs.Common.{[], sym, subst, ◌∙◌}
+use Rattle.cdk_language.specs.Runs.{sub_literals}
 use Rattle.cdk_language.specs.SubView.{piece_view}
 use Rattle.cdk_language.proofs.Pieces.{after-shorter, after-text}
 use Rattle.cdk_findings.specs.Reads.{Reads}
-use Rattle.cdk_findings.proofs.SubRuns.{uncut, never_wrong, next_cut, next_same, last_same}
+use Rattle.cdk_findings.proofs.SubRuns.{uncut, next_cut, next_same, last_same}
 use Rattle.cdk_findings.proofs.runs.read_plain_sub.Goals as goal
 
 pub returns-then-is_wrong_sub_text : goal.returns-then-is_wrong_sub_text

@@ -1,7 +1,7 @@
 use Rattle.std.proofs.Common.{◌≡◌, ◌≤◌, ◌+◌, ◌∷◌, ◌++◌, drop, get_or, sym, subst, ap, ◌∙◌, arith}
 use Rattle.std.proofs.lemmas.List.{drop_more}
 use Rattle.cdk_language.specs.Runs.{is_marked_run}
-use Rattle.cdk_findings.specs.Reads.{opening, step}
+use Rattle.cdk_findings.specs.Reads.{opening}
 use Rattle.cdk_findings.proofs.Opening.{run-step, step-bound}
 use Rattle.cdk_findings.proofs.runs.read_text.Goals as goal
 

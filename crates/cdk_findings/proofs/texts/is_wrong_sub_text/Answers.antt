@@ -1,8 +1,8 @@
-use Rattle.std.proofs.Common.{◌≡◌, ℕ, ◌||◌, ◌<◌, length, List, [], ◌∷◌, Bool, true, false, Option, Some, None, option_map, refl, sym, ap, ◌∙◌, rules, arith}
+use Rattle.std.proofs.Common.{◌≡◌, ℕ, ◌||◌, List, [], ◌∷◌, false, Option, Some, None, option_map, refl, sym, ap, ◌∙◌}
 use Rattle.std.specs.List.{list_any}
-use Rattle.cdk_language.specs.Sub.{Piece, first_piece, literal_before, pieces_of, first_piece_of}
-use Rattle.cdk_language.specs.Schema.{are_wrong_pieces, is_barred_piece, is_wrong_sub_text}
-use Rattle.cdk_language.specs.SubView.{first_view, piece_view}
+use Rattle.cdk_language.specs.Sub.{Piece, literal_before, pieces_of}
+use Rattle.cdk_language.specs.Schema.{are_wrong_pieces, is_barred_piece}
+use Rattle.cdk_language.specs.SubView.{piece_view}
 use Rattle.cdk_language.specs.declared.schema.Within.{Within}
 use Rattle.cdk_language.specs.declared.schema.Within.TheVariants as within
 use Rattle.cdk_language.proofs.Pieces.{pieces-step, after-shorter, after-text}
@@ -24,7 +24,8 @@ loop-piece-smaller c = after-shorter c.loop-piece.rest.now c.in-Piece.before.now
 pub loop-piece-preserved : goal.loop-piece-preserved
 loop-piece-preserved c =
     let w = c.args.within in
-    let p = piece_view c.in-Piece.piece in
-    (c.loop-piece.invariant.0 ∙ ap (are_wrong_pieces w) (pieces-step c.loop-piece.rest.now c.in-Piece.before.now p c.in-Piece.after.now (sym c.in-Piece.ensures))
-    ∙ next_piece w c.in-Piece.before.now p (pieces_of c.in-Piece.after.now) (sym c.if-is_barred_piece.ensures),
-    after-text c.loop-piece.rest.now c.in-Piece.before.now p c.in-Piece.after.now c.loop-piece.invariant.1 (sym c.in-Piece.ensures))
+    let p = piece_view c.in-Piece.piece in (
+      c.loop-piece.invariant.0 ∙ ap (are_wrong_pieces w) (pieces-step c.loop-piece.rest.now c.in-Piece.before.now p c.in-Piece.after.now (sym c.in-Piece.ensures))
+          ∙ next_piece w c.in-Piece.before.now p (pieces_of c.in-Piece.after.now) (sym c.if-is_barred_piece.ensures),
+      after-text c.loop-piece.rest.now c.in-Piece.before.now p c.in-Piece.after.now c.loop-piece.invariant.1 (sym c.in-Piece.ensures),
+    )

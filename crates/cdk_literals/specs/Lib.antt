@@ -1,0 +1,5 @@
+pub mod Documents
+pub mod Form
+pub mod LiteralStack
+pub mod Views
+pub mod Written
