@@ -1,9 +1,9 @@
 -- What the reader of applications answers: the application, or exactly the first fault (own).
-use Rattle.std.specs.Prelude.{◌≡◌, ℕ, List, [], ◌⊎◌, Result, Ok, Err, Some, IsUtf8}
+use Rattle.std.specs.Prelude.{◌≡◌, ℕ, List, [], ◌⊎◌, Result, Ok, Err, Some, None}
 use Rattle.serde_json.specs.Data.{Data}
-use Rattle.serde_json.specs.Read.{read}
 use Rattle.serde_json.specs.View.{view}
 use Rattle.serde_json.specs.declared.value.Value.{Value}
+use Rattle.cdk_base.specs.Json.{parsed}
 use Rattle.cdk_base.specs.declared.Setting.{Setting}
 use Rattle.cdk_base.specs.declared.code.Code.{Code}
 use Rattle.cdk_base.specs.declared.code.Code.TheVariants.{NotJson}
@@ -15,34 +15,25 @@ use Rattle.cdk_language.specs.Findings.{findings, setting_findings, first}
 use Rattle.cdk_language.specs.declared.construct.App.{App}
 use Rattle.cdk_language.specs.declared.finding.Finding.{Finding}
 
--- the bytes are the JSON text of d
-pub record Holds (bytes : List ℕ) (d : Data) : Type 0 where
-  pub text : IsUtf8 bytes
-  pub value : read bytes ≡ Some d
-
--- the bytes are no JSON text
-abbrev pub IsNoJson : List ℕ → Type 0
-IsNoJson bytes = (d : Data) → Holds bytes d → ⊥
-
 abbrev pub fault_of : Finding → Fault
 fault_of f = faults.App f.code f.place
 
 -- the document's application, where nothing is found in it
 pub record IsReadAs (bytes : List ℕ) (app : Application) : Type 0 where
   pub document : Data
-  pub holds : Holds bytes document
+  pub holds : parsed bytes ≡ Some document
   pub clean : findings document ≡ []
   pub is : application_of document ≡ Some app
 
 -- the first finding is of this code at this place
 pub record IsFirstFinding (bytes : List ℕ) (code : Code) (place : List ℕ) : Type 0 where
   pub document : Data
-  pub holds : Holds bytes document
+  pub holds : parsed bytes ≡ Some document
   pub found : first (findings document) ≡ Some (record { code = code; place = place })
 
 -- no JSON is told at the empty place
 pub record IsNotJson (bytes : List ℕ) (code : Code) (place : List ℕ) : Type 0 where
-  pub no_json : IsNoJson bytes
+  pub no_json : parsed bytes ≡ None
   pub named : code ≡ NotJson
   pub nowhere : place ≡ []
 
@@ -60,7 +51,7 @@ IsNotJsonFault (faults.App code place) = (code ≡ NotJson) × (place ≡ [])
 IsNotJsonFault (faults.Refused place name text) = ⊥
 
 abbrev pub ParseAnswer : Result Value Fault → List ℕ → Type 0
-ParseAnswer (Ok value) bytes = Holds bytes (view value)
+ParseAnswer (Ok value) bytes = parsed bytes ≡ Some (view value)
 ParseAnswer (Err faults.Memory) bytes = Unit {0}
 ParseAnswer (Err (faults.App code place)) bytes = IsNotJson bytes code place
 ParseAnswer (Err (faults.Refused place name text)) bytes = ⊥

@@ -5,7 +5,7 @@ ghost use Rattle.cdk_doc.specs.Answers.{ReadAnswer, DocumentAnswer, ParseAnswer,
 use crate::constructs::application_of;
 use crate::error::ReadError;
 use crate::settings::fault_of;
-use cdk_base::{Code, Fault, Text, Value};
+use cdk_base::{Code, Fault, Text, Value, parse};
 use cdk_findings::first_finding;
 use cdk_language::App;
 use std::alloc::Global;
@@ -25,14 +25,10 @@ fn not_json(alloc: Global) -> Fault
 fn parsed(alloc: Global, bytes: &[u8]) -> Result<Value, Fault>
     ensures { ParseAnswer result bytes.now }
 {
-    match Value::from_slice(alloc, bytes) {
-        Ok(value) => Ok(value),
-        Err(e) => {
-            if e.is_memory() {
-                return Err(Fault::Memory);
-            }
-            Err(not_json(alloc))
-        }
+    match parse(alloc, bytes) {
+        Ok(Some(value)) => Ok(value),
+        Ok(None) => Err(not_json(alloc)),
+        Err(_) => Err(Fault::Memory),
     }
 }
 
