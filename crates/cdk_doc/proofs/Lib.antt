@@ -1,0 +1,15 @@
+pub mod ConditionLemmas
+pub mod ConstructLemmas
+pub mod Firsts
+pub mod LawArguments
+pub mod LawBodies
+pub mod LawConditions
+pub mod LawConstructs
+pub mod LawExpressions
+pub mod LawHeads
+pub mod LawMembers
+pub mod LawPlaces
+pub mod Pieces
+pub mod Reading
+pub mod Seen
+pub mod Variables

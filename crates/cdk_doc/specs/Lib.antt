@@ -1,0 +1,4 @@
+pub mod Answers
+pub mod Gives
+pub mod Steps
+pub mod Views

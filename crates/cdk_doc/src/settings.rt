@@ -1,0 +1,86 @@
+// Settings laid over the context of an application's root.
+ghost use Rattle.std.specs.Prelude.{◌≡◌, [], IfOk, MatchOption};
+ghost use Rattle.serde_json.specs.View.{members_view};
+ghost use Rattle.cdk_language.specs.Application.{laid_over as laid_over_members, with_settings as with_settings_laid};
+ghost use Rattle.cdk_language.specs.Construct.{app_view};
+ghost use Rattle.cdk_language.specs.Findings.{setting_findings};
+ghost use Rattle.cdk_doc.specs.Answers.{SettingsAnswer, IsSettingsFault, fault_of as fault_of_finding};
+
+use cdk_base::{Fault, Map, Setting, Value};
+use cdk_findings::first_setting_finding;
+use cdk_language::{App, Finding, Node};
+use std::alloc::{AllocError, Global};
+
+/// The fault that a finding is.
+pub fn fault_of(finding: Finding) -> Fault
+    ensures { result ≡ fault_of_finding finding }
+{
+    let Finding { code, place } = finding;
+    Fault::App { code, place }
+}
+
+/// The fault of the settings, where they have one.
+fn settings_fault(alloc: Global, settings: &[Setting]) -> Option<Fault>
+    ensures { MatchOption result (setting_findings settings.now ≡ []) (λ f. IsSettingsFault f settings.now) }
+{
+    match first_setting_finding(alloc, settings) {
+        Err(_) => Some(Fault::Memory),
+        Ok(Some(finding)) => Some(fault_of(finding)),
+        Ok(None) => None,
+    }
+}
+
+/// Each setting in order replaces the key's value.
+fn laid_over(alloc: Global, context: Map, settings: &[Setting]) -> Result<Map, AllocError>
+    ensures { IfOk result (λ m. members_view m.entries ≡ laid_over_members (members_view context.entries) settings.now) }
+{
+    let mut context = context;
+    for setting in settings {
+        let key = String::from_str(alloc, setting.key.as_str())?;
+        let value = String::from_str(alloc, setting.value.as_str())?;
+        drop(context.insert(key, Value::String(value))?);
+    }
+    Ok(context)
+}
+
+fn app_with(alloc: Global, app: App, settings: &[Setting]) -> Result<App, AllocError>
+    ensures { IfOk result (λ a. app_view a ≡ with_settings_laid (app_view app) settings.now) }
+{
+    let App { root } = app;
+    let Node {
+        id,
+        kind,
+        context,
+        aspects,
+        depends,
+        logical,
+        children,
+    } = root;
+    let context = laid_over(alloc, context, settings)?;
+    Ok(App {
+        root: Node {
+            id,
+            kind,
+            context,
+            aspects,
+            depends,
+            logical,
+            children,
+        },
+    })
+}
+
+/// The application with the settings laid over its root's context, in their order: of two with one key the later
+/// counts. Its faults are `LiteralMarker` at `=` and the key of the first setting whose key or value holds the
+/// beginning of a token's marker, and want of memory; the application is dropped then.
+pub fn with_settings(alloc: Global, app: App, settings: &[Setting]) -> Result<App, Fault>
+    ensures { SettingsAnswer result (app_view app) settings.now }
+{
+    if let Some(fault) = settings_fault(alloc, settings) {
+        return Err(fault);
+    }
+    let Ok(app) = app_with(alloc, app, settings) else {
+        return Err(Fault::Memory);
+    };
+    Ok(app)
+}
