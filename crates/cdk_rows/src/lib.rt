@@ -4,6 +4,8 @@
 #[cfg(test)]
 mod bucket;
 #[cfg(test)]
+mod documents;
+#[cfg(test)]
 mod failures;
 #[cfg(test)]
 mod refusals;
