@@ -1,0 +1,4 @@
+pub mod Around
+mod Examples
+mod Faults
+pub mod Pieces

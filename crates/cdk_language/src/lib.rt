@@ -1,0 +1,16 @@
+//! The language of applications: its types, what a JSON document means in it, and what is wrong with one.
+#![tactic(auto)]
+
+mod condition;
+mod construct;
+mod expression;
+mod finding;
+mod schema;
+mod sub;
+
+pub use condition::Cond;
+pub use construct::{App, Entry, Kind, Node, Output, Parameter, ParameterForm, Policy, Resource};
+pub use expression::{Expr, Field, Pseudo};
+pub use finding::Finding;
+pub use schema::{Frame, KindName, Role, Schema, Within};
+pub use sub::{FirstPiece, SubPiece, first_piece, is_attribute, is_variable_name};
