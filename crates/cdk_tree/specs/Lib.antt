@@ -1,0 +1,4 @@
+pub mod Expected
+pub mod Lists
+pub mod PlaceFindings
+pub mod Placed

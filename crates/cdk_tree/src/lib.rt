@@ -1,0 +1,9 @@
+//! The constructs of an application in walk order: paths, scopes, stacks, stages, context, and what is wrong with places
+//! and targets.
+#![tactic(auto)]
+
+mod node_id;
+mod role;
+
+pub use node_id::NodeId;
+pub use role::{Found, PassError, TargetRole};
