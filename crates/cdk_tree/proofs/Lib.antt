@@ -1,1 +1,4 @@
 pub mod Examples
+pub mod Numbered
+pub mod SlotLemmas
+pub mod Tests

@@ -2,3 +2,5 @@ pub mod Expected
 pub mod Lists
 pub mod PlaceFindings
 pub mod Placed
+pub mod Slots
+pub mod NodesView

@@ -36,8 +36,8 @@ abbrev pub has_taken_id : List Placed → Placed → Bool
 has_taken_id before p = list_any (λ q. are_siblings p q && bytes_eq p.head.id q.head.id) before
 
 -- a stack or stage in a stack, an element outside every stack, or more than ten levels below the root
-abbrev pub is_misplaced : Option ℕ → Placed → Bool
-is_misplaced outer p = ((is_stack p.body || is_stage p.body) && is_some outer) || ((is_element p.body && is_none outer) || nat_le 11 p.level)
+abbrev pub is_misplaced : Option ℕ → ℕ → Body → Bool
+is_misplaced outer level b = ((is_stack b || is_stage b) && is_some outer) || ((is_element b && is_none outer) || nat_le 11 level)
 
 abbrev pub when : Bool → Code → List Code
 when b c = if b then c ∷ [] else []
@@ -45,7 +45,7 @@ when b c = if b then c ∷ [] else []
 -- what is wrong at a construct, the lowest number first; nothing at the root
 abbrev pub wrong_at : List Placed → Placed → Option ℕ → List Code
 wrong_at before p None = []
-wrong_at before p (Some m) = when (not (is_id p.head.id)) BadId ++ (when (has_taken_id before p) SameId ++ when (is_misplaced (construct_at before m).stack p) BadPlace)
+wrong_at before p (Some m) = when (not (is_id p.head.id)) BadId ++ (when (has_taken_id before p) SameId ++ when (is_misplaced (construct_at before m).stack p.level p.body) BadPlace)
 
 abbrev pub found_at : List ℕ → Code → Finding
 found_at t c = record { code = c; place = t }

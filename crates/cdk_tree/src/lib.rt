@@ -3,7 +3,11 @@
 #![tactic(auto)]
 
 mod node_id;
+mod nodes;
+mod part;
 mod role;
+mod slot;
 
 pub use node_id::NodeId;
+pub use part::Part;
 pub use role::{Found, PassError, TargetRole};

@@ -1,0 +1,29 @@
+-- Both sides of a test.
+use Rattle.std.proofs.Common.{◌≡◌, ℕ, zero, suc, ◌<◌, List, [], ◌∷◌, length, get_or, slice_get, Some, None, Bool, true, false, refl, sym, true≢false, arith}
+use Rattle.std.specs.Prelude.{◌&&◌, ◌||◌}
+
+pub and_left : (a b : Bool) → (a && b) ≡ true → a ≡ true
+and_left true b h = refl
+and_left false b h = h
+
+pub and_right : (a b : Bool) → (a && b) ≡ true → b ≡ true
+and_right true b h = h
+and_right false b h = absurd (true≢false (sym h))
+
+pub and_both : (a b : Bool) → a ≡ true → b ≡ true → (a && b) ≡ true
+and_both true b h k = k
+and_both false b h k = h
+
+-- an item of a list
+pub slice_get-at : {X : Type 0} (xs : List X) (k : ℕ) (d : X) → k < length xs → slice_get xs k ≡ Some (get_or xs k d)
+slice_get-at [] k d h = absurd (omega arith)
+slice_get-at (x ∷ xs) zero d h = refl
+slice_get-at (x ∷ xs) (suc k) d h = slice_get-at xs k d (omega arith)
+
+pub not_none : {X : Type 0} (xs : List X) (k : ℕ) → k < length xs → slice_get xs k ≡ None → ⊥
+not_none [] k h none = omega arith
+not_none (x ∷ xs) zero h none = cc
+not_none (x ∷ xs) (suc k) h none = not_none xs k (omega arith) none
+
+pub same_some : {X : Type 0} (x y : X) → Some x ≡ Some y → x ≡ y
+same_some x y h = cc
