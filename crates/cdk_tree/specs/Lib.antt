@@ -4,3 +4,4 @@ pub mod PlaceFindings
 pub mod Placed
 pub mod Slots
 pub mod NodesView
+pub mod Walking

@@ -57,3 +57,7 @@ findings_from before (p ∷ ps) = map (found_at p.path) (wrong_at before p p.par
 
 abbrev pub place_findings : List Placed → List Finding
 place_findings cs = findings_from [] cs
+
+abbrev pub first : {A : Type 0} → List A → Option A
+first [] = None
+first (x ∷ xs) = Some x

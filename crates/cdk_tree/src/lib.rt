@@ -5,8 +5,10 @@
 mod node_id;
 mod nodes;
 mod part;
+mod pending;
 mod role;
 mod slot;
+mod walking;
 
 pub use node_id::NodeId;
 pub use part::Part;
