@@ -1,9 +1,9 @@
 -- The constructs that a list of slots holds: each slot by its parent, which is among those before it (own).
-use Rattle.std.specs.Prelude.{ℕ, ◌+◌, ◌==◌, ◌&&◌, List, [], ◌∷◌, ◌++◌, map, nat_lt, Bool, true, Option, Some, None}
+use Rattle.std.specs.Prelude.{ℕ, ◌+◌, ◌==◌, ◌&&◌, List, [], ◌∷◌, ◌++◌, map, nat_lt, Bool, true, if◌then◌else◌, Option, Some, None}
 use Rattle.serde_json.specs.Data.{Members}
 use Rattle.serde_json.specs.View as json
 use Rattle.cdk_language.specs.Construct.{Head, entry_view, kind_view}
-use Rattle.cdk_tree.specs.Placed.{Placed, construct_at, path_in}
+use Rattle.cdk_tree.specs.Placed.{Placed, construct_at, is_stack, is_stage, path_in}
 use Rattle.cdk_tree.specs.declared.part.Part.{Part}
 use Rattle.cdk_tree.specs.declared.slot.Slot.{Slot}
 
@@ -50,3 +50,16 @@ fit_parents n (s ∷ ss) = fits_parent n s.parent && fit_parents (n + 1) ss
 abbrev pub numbered_paths : ℕ → List Placed → List (List ℕ × ℕ)
 numbered_paths n [] = []
 numbered_paths n (c ∷ cs) = (c.path, n) ∷ numbered_paths (n + 1) cs
+
+-- the slot of the construct of the number n, in the scope of the number m
+abbrev pub slot_in : ℕ → ℕ → Slot → Part → Slot
+slot_in n m scope p = record {
+  part = p;
+  parent = Some m;
+  level = scope.level + 1;
+  stack = if is_stack (kind_view p.kind) then Some n else scope.stack;
+  stage = if is_stage (kind_view p.kind) then n else scope.stage;
+}
+
+abbrev pub root_slot : Part → Slot
+root_slot p = record { part = p; parent = None; level = 0; stack = if is_stack (kind_view p.kind) then Some 0 else None; stage = 0 }

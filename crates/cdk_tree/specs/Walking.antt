@@ -1,5 +1,6 @@
 -- What the walk over an application has placed and what is still to be placed (own).
-use Rattle.std.specs.Prelude.{◌≡◌, ◌<◌, ℕ, ◌+◌, List, [], ◌∷◌, ◌++◌, map, reverse, length, Bool, true, not, if◌then◌else◌, Option, Some, None, is_some, Result, Ok, Err}
+use Rattle.std.specs.Prelude.{◌≡◌, ◌<◌, ℕ, ◌+◌, List, [], ◌∷◌, ◌++◌, map, reverse, length, Bool, true, not, if◌then◌else◌, Option, Some, None, is_some, Result, Ok, Err, String, string_bytes}
+use Rattle.std.specs.declared.alloc.Global.{Global}
 use Rattle.cdk_base.specs.declared.code.Code.{Code}
 use Rattle.cdk_base.specs.declared.code.Code.TheVariants.{BadId, SameId, BadPlace}
 use Rattle.cdk_base.specs.declared.fault.Fault.{Fault}
@@ -8,7 +9,7 @@ use Rattle.cdk_language.specs.Construct as language
 use Rattle.cdk_language.specs.Construct.{Body, Construct, Constructs, Head, node_view}
 use Rattle.cdk_tree.specs.NodesView.{placed_nodes}
 use Rattle.cdk_tree.specs.PlaceFindings.{first, found_at, is_id, is_misplaced, place_findings}
-use Rattle.cdk_tree.specs.Placed.{Placed, construct_at, find_path, path_in, placed_in, walk}
+use Rattle.cdk_tree.specs.Placed.{Placed, construct_at, find_path, path_in, placed_in, root_placed, walk}
 use Rattle.cdk_tree.specs.declared.nodes.Nodes.{Nodes}
 use Rattle.cdk_tree.specs.declared.pending.Pending.{Pending}
 
@@ -87,3 +88,24 @@ Completes (Ok t) all = (placed_nodes t ≡ all) × (place_findings all ≡ [])
 Completes (Err faults.Memory) all = Unit {0}
 Completes (Err (faults.App code place)) all = first (place_findings all) ≡ Some (found_at place code)
 Completes (Err (faults.Refused place name text)) all = ⊥
+
+-- the root is placed, and its children are next
+abbrev pub EntersRoot : Result Nodes Fault → Construct → List Waiting → List Waiting → Type 0
+EntersRoot (Ok t) (language.construct h b kids) before after = (placed_nodes t ≡ root_placed h b ∷ []) × (after ≡ children_of 0 kids ++ before)
+EntersRoot (Err faults.Memory) c before after = Unit {0}
+EntersRoot (Err (faults.App code place)) c before after = ⊥
+EntersRoot (Err (faults.Refused place name text)) c before after = ⊥
+
+-- the path, where nothing is wrong
+abbrev pub ChecksPath : Result (String Global) Fault → List Placed → ℕ → List ℕ → Body → Type 0
+ChecksPath (Ok p) cs m i b = (wrong_code cs m i b ≡ None) × (string_bytes p ≡ path_in (construct_at cs m).path i)
+ChecksPath (Err faults.Memory) cs m i b = Unit {0}
+ChecksPath (Err (faults.App code place)) cs m i b = (wrong_code cs m i b ≡ Some code) × (place ≡ path_in (construct_at cs m).path i)
+ChecksPath (Err (faults.Refused place name text)) cs m i b = ⊥
+
+-- the construct is placed, and its children are next
+abbrev pub Places : Result Nodes Fault → List Placed → Placed → Constructs → List Waiting → List Waiting → Type 0
+Places (Ok t) cs p kids before after = (placed_nodes t ≡ cs ++ p ∷ []) × (after ≡ children_of (length cs) kids ++ before)
+Places (Err faults.Memory) cs p kids before after = Unit {0}
+Places (Err (faults.App code place)) cs p kids before after = ⊥
+Places (Err (faults.Refused place name text)) cs p kids before after = ⊥
