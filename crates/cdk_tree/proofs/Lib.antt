@@ -1,5 +1,6 @@
 pub mod Examples
 pub mod Findings
+pub mod MarkingLemmas
 pub mod Numbered
 pub mod PathLaw
 pub mod SlotLemmas

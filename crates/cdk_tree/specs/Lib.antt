@@ -5,3 +5,4 @@ pub mod Placed
 pub mod Slots
 pub mod NodesView
 pub mod Walking
+pub mod Needs
