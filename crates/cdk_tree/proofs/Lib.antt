@@ -1,6 +1,7 @@
 pub mod Examples
 pub mod Findings
 pub mod MarkingLemmas
+pub mod NeededLemmas
 pub mod Numbered
 pub mod PathLaw
 pub mod SlotLemmas

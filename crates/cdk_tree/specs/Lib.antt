@@ -6,3 +6,4 @@ pub mod Slots
 pub mod NodesView
 pub mod Walking
 pub mod Needs
+pub mod Needed

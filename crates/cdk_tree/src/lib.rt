@@ -2,6 +2,7 @@
 //! and targets.
 #![tactic(auto)]
 
+mod lists;
 mod marking;
 mod node_id;
 mod nodes;
