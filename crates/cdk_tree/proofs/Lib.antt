@@ -4,6 +4,7 @@ pub mod MarkingLemmas
 pub mod NeededLemmas
 pub mod Numbered
 pub mod PathLaw
+pub mod RefusedLemmas
 pub mod SlotLemmas
 pub mod SoundLemmas
 pub mod Tests

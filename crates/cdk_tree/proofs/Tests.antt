@@ -1,6 +1,9 @@
 -- Both sides of a test.
 use Rattle.std.proofs.Common.{◌≡◌, ℕ, zero, suc, ◌<◌, List, [], ◌∷◌, length, get_or, slice_get, Some, None, Bool, true, false, refl, sym, true≢false, arith}
 use Rattle.std.specs.Prelude.{◌&&◌, ◌||◌}
+use Rattle.std.specs.List.{list_any}
+use Rattle.std.proofs.Common.{◌++◌, ap, ◌∙◌}
+use Rattle.std.proofs.lemmas.List.Folds.{list_any-append}
 
 pub and_left : (a b : Bool) → (a && b) ≡ true → a ≡ true
 and_left true b h = refl
@@ -32,3 +35,17 @@ pub both_ways : (a b : Bool) → (a ≡ true → b ≡ true) → (b ≡ true →
 both_ways true b there back = sym (there refl)
 both_ways false true there back = back refl
 both_ways false false there back = refl
+
+-- ---- tests of lists that are put together
+
+pub any_first : {X : Type 0} (p : X → Bool) (xs ys : List X) → list_any p xs ≡ true → list_any p (xs ++ ys) ≡ true
+any_first p xs ys h = list_any-append p xs ys ∙ ap (λ b. b || list_any p ys) h
+
+pub any_second : {X : Type 0} (p : X → Bool) (xs ys : List X) → list_any p xs ≡ false → list_any p (xs ++ ys) ≡ list_any p ys
+any_second p xs ys h = list_any-append p xs ys ∙ ap (λ b. b || list_any p ys) h
+
+pub any_here : {X : Type 0} (p : X → Bool) (x : X) (xs : List X) → p x ≡ true → list_any p (x ∷ xs) ≡ true
+any_here p x xs h = ap (λ b. b || list_any p xs) h
+
+pub any_later : {X : Type 0} (p : X → Bool) (x : X) (xs : List X) → p x ≡ false → list_any p (x ∷ xs) ≡ list_any p xs
+any_later p x xs h = ap (λ b. b || list_any p xs) h

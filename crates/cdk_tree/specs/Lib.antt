@@ -7,3 +7,4 @@ pub mod NodesView
 pub mod Walking
 pub mod Needs
 pub mod Needed
+pub mod TreeView

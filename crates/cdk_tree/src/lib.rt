@@ -2,6 +2,7 @@
 //! and targets.
 #![tactic(auto)]
 
+mod building;
 mod lists;
 mod marking;
 mod node_id;
@@ -10,8 +11,12 @@ mod part;
 mod pending;
 mod role;
 mod slot;
+mod targets;
+mod tree;
 mod walking;
 
+pub use building::build;
 pub use node_id::NodeId;
 pub use part::Part;
-pub use role::{Found, PassError, TargetRole};
+pub use role::{Found, PassError};
+pub use tree::Tree;
