@@ -7,6 +7,8 @@ use crate::lists::{finds_array, list_lazies, names_list};
 use crate::node_id::NodeId;
 use crate::nodes::Nodes;
 use crate::part::Part;
+use crate::role::Found;
+use crate::targets::check;
 use crate::walking::walk;
 use cdk_base::{Fault, Value};
 use cdk_language::{App, Expr};
@@ -29,10 +31,11 @@ impl Tree {
     ghost use Rattle.serde_json.specs.View.{view as json_view};
     ghost use Rattle.cdk_language.specs.Construct.{app_view, kind_view};
     ghost use Rattle.cdk_language.specs.Expression.{view};
+    ghost use Rattle.cdk_tree.specs.Expected.{target_findings};
     ghost use Rattle.cdk_tree.specs.Lists.{is_list as spec_is_list};
     ghost use Rattle.cdk_tree.specs.Placed.{construct_at, find_path, look_up};
     ghost use Rattle.cdk_tree.specs.Slots.{head_of, numbered_paths};
-    ghost use Rattle.cdk_tree.specs.TreeView.{constructs, Builds};
+    ghost use Rattle.cdk_tree.specs.TreeView.{constructs, Builds, FindsFirst};
 
     /// The tree of an application, or the first thing that is wrong with its ids and places.
     pub(crate) fn of(alloc: Global, app: App) -> Result<Tree, Fault>
@@ -173,5 +176,18 @@ impl Tree {
             | Expr::FindInMap(_, _, _)
             | Expr::ImportValue(_) => false,
         }
+    }
+
+    /// The first thing that is wrong with what constructs refer to, in walk order, at one construct the lowest number:
+    ///
+    /// - `NoTarget`: no construct has the path of a target.
+    /// - `WrongTarget`: a target has a wrong kind; a list, or a Context that finds an array or object, stands where a text
+    ///   must be; neither an array nor a list stands where a list must be; or a condition mentions a resource.
+    ///
+    /// Every construct is looked at, lazies that nothing uses included. A Context that finds nothing passes.
+    pub fn check_targets(&self) -> Result<(), Found>
+        ensures { FindsFirst result (target_findings (constructs self.now)) }
+    {
+        check(self)
     }
 }
