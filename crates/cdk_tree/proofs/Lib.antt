@@ -5,6 +5,7 @@ pub mod NeededLemmas
 pub mod Numbered
 pub mod PathLaw
 pub mod RefusedLemmas
+pub mod ScopeLemmas
 pub mod SlotLemmas
 pub mod SoundLemmas
 pub mod Tests

@@ -1,5 +1,6 @@
 -- The constructs that a list of slots holds: each slot by its parent, which is among those before it (own).
-use Rattle.std.specs.Prelude.{ℕ, ◌+◌, ◌==◌, ◌&&◌, List, [], ◌∷◌, ◌++◌, map, nat_lt, Bool, true, if◌then◌else◌, Option, Some, None}
+use Rattle.std.specs.Prelude.{◌≡◌, ◌<◌, ℕ, length, nat_le, ◌+◌, ◌==◌, ◌&&◌, List, [], ◌∷◌, ◌++◌, map, nat_lt, Bool, true, if◌then◌else◌, Option, Some, None}
+use Rattle.std.specs.Option.{option_map_or}
 use Rattle.serde_json.specs.Data.{Members}
 use Rattle.serde_json.specs.View as json
 use Rattle.cdk_language.specs.Construct.{Head, entry_view, kind_view}
@@ -63,3 +64,10 @@ slot_in n m scope p = record {
 
 abbrev pub root_slot : Part → Slot
 root_slot p = record { part = p; parent = None; level = 0; stack = if is_stack (kind_view p.kind) then Some 0 else None; stage = 0 }
+
+-- its stack is a stack that stands no later, and its stage no later either
+abbrev pub is_scoped : List Placed → ℕ → Placed → Bool
+is_scoped cs n c = option_map_or (λ k. nat_le k n && is_stack (construct_at cs k).body) c.stack true && nat_le c.stage n
+
+abbrev pub AreScoped : List Placed → Type 0
+AreScoped cs = (n : ℕ) → n < length cs → is_scoped cs n (construct_at cs n) ≡ true

@@ -1,6 +1,6 @@
 // The constructs by number and by path.
 ghost use Rattle.std.specs.Prelude.{◌≡◌, ℕ, ◌<◌, List, [], ◌∷◌, ◌++◌, length, map, true, IfOk, IfSome, None, string_bytes};
-ghost use Rattle.cdk_tree.specs.Slots.{constructs_in, fit_parents, fits_parent, numbered_paths, placed_of};
+ghost use Rattle.cdk_tree.specs.Slots.{constructs_in, fit_parents, fits_parent, is_scoped, numbered_paths, placed_of, AreScoped};
 
 use crate::node_id::NodeId;
 use crate::slot::Slot;
@@ -14,6 +14,7 @@ pub struct Nodes {
     slots: List<Slot>,
     paths: IndexMap<String, NodeId>,
     ghost rooted: { fit_parents 0 slots ≡ true },
+    ghost scoped: { AreScoped (constructs_in slots) },
     ghost indexed: { map (λ e. (string_bytes e.0, e.1)) paths.entries ≡ numbered_paths 0 (constructs_in slots) },
 }
 
@@ -39,6 +40,7 @@ impl Nodes {
         requires new { find_path (placed_nodes self) (string_bytes path) ≡ None }
         requires path { string_bytes path ≡ (placed_of (placed_nodes self) slot).path }
         requires parent { fits_parent (length (placed_nodes self)) slot.parent ≡ true }
+        requires scopes { is_scoped (placed_nodes self ++ placed_of (placed_nodes self) slot ∷ []) (length (placed_nodes self)) (placed_of (placed_nodes self) slot) ≡ true }
         ensures { IfOk result (λ t. placed_nodes t ≡ placed_nodes self ++ placed_of (placed_nodes self) slot ∷ []) }
     {
         let Nodes { mut slots, mut paths } = self;
@@ -78,6 +80,7 @@ impl Nodes {
         requires { at < length (placed_nodes self.now) }
         ensures placed { placed_of (placed_nodes self.now) result.now ≡ construct_at (placed_nodes self.now) at }
         ensures below { fits_parent at result.now.parent ≡ true }
+        ensures scopes { is_scoped (placed_nodes self.now) at (construct_at (placed_nodes self.now) at) ≡ true }
     {
         let Some(slot) = self.slots.get(at.number()) else {
             unreachable!()

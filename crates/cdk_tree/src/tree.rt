@@ -26,14 +26,14 @@ pub struct Tree {
 }
 
 impl Tree {
-    ghost use Rattle.std.specs.Prelude.{◌<◌, ◌↔◌, length, map, nat_lt, if◌then◌else◌, option_map, string_bytes, slice_index_or, false, Some, None, IfSome, IsNone, MatchOption};
+    ghost use Rattle.std.specs.Prelude.{◌<◌, ◌≤◌, ◌↔◌, length, map, nat_lt, if◌then◌else◌, option_map, string_bytes, slice_index_or, true, false, Some, None, IfSome, IsNone, MatchOption};
     ghost use Rattle.std.specs.Option.{option_copied, option_map_or};
     ghost use Rattle.serde_json.specs.View.{view as json_view};
     ghost use Rattle.cdk_language.specs.Construct.{app_view, kind_view};
     ghost use Rattle.cdk_language.specs.Expression.{view};
     ghost use Rattle.cdk_tree.specs.Expected.{target_findings};
     ghost use Rattle.cdk_tree.specs.Lists.{is_list as spec_is_list};
-    ghost use Rattle.cdk_tree.specs.Placed.{construct_at, find_path, look_up};
+    ghost use Rattle.cdk_tree.specs.Placed.{construct_at, find_path, is_stack, look_up};
     ghost use Rattle.cdk_tree.specs.Slots.{head_of, numbered_paths};
     ghost use Rattle.cdk_tree.specs.TreeView.{constructs, Builds, FindsFirst};
 
@@ -120,7 +120,8 @@ impl Tree {
     /// The construct itself or its nearest scope that is a stack. None exactly outside every stack.
     pub fn stack_of(&self, at: NodeId) -> Option<NodeId>
         requires { at < length (constructs self.now) }
-        ensures { result ≡ (construct_at (constructs self.now) at).stack }
+        ensures value { result ≡ (construct_at (constructs self.now) at).stack }
+        ensures stack { IfSome result (λ n. (n ≤ at) × (is_stack (construct_at (constructs self.now) n).body ≡ true)) }
     {
         self.nodes.slot(at).stack
     }
@@ -128,7 +129,8 @@ impl Tree {
     /// The construct itself or its nearest scope that is a stage, else the root.
     pub fn stage_of(&self, at: NodeId) -> NodeId
         requires { at < length (constructs self.now) }
-        ensures { result ≡ (construct_at (constructs self.now) at).stage }
+        ensures value { result ≡ (construct_at (constructs self.now) at).stage }
+        ensures before { result ≤ at }
     {
         self.nodes.slot(at).stage
     }

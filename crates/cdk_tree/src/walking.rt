@@ -4,7 +4,7 @@ ghost use Rattle.cdk_language.specs.Construct.{construct, kind_view, node_view, 
 ghost use Rattle.cdk_tree.specs.NodesView.{placed_nodes};
 ghost use Rattle.cdk_tree.specs.PlaceFindings.{is_id as spec_is_id, is_element as spec_is_element, is_misplaced as spec_is_misplaced};
 ghost use Rattle.cdk_tree.specs.Placed.{construct_at, constructs_of, find_path, is_stack as spec_is_stack, is_stage as spec_is_stage, path_in as spec_path_in};
-ghost use Rattle.cdk_tree.specs.Slots.{fits_parent, head_of, placed_of, root_slot as spec_root_slot, slot_in as spec_slot_in};
+ghost use Rattle.cdk_tree.specs.Slots.{fits_parent, head_of, is_scoped, placed_of, root_slot as spec_root_slot, slot_in as spec_slot_in};
 ghost use Rattle.cdk_tree.specs.Walking.{all_placed, children_of, pending_view, waiting, wrong_code, AreBelow, ChecksPath, Completes, Enters, EntersRoot, IsSound, Places};
 
 use crate::node_id::NodeId;
@@ -203,6 +203,7 @@ fn place(
     requires new { find_path (placed_nodes nodes) (string_bytes path) ≡ None }
     requires path { string_bytes path ≡ (placed_of (placed_nodes nodes) slot).path }
     requires parent { fits_parent (length (placed_nodes nodes)) slot.parent ≡ true }
+    requires scopes { is_scoped (placed_nodes nodes ++ placed_of (placed_nodes nodes) slot ∷ []) (length (placed_nodes nodes)) (placed_of (placed_nodes nodes) slot) ≡ true }
     ensures { Places result (placed_nodes nodes) (placed_of (placed_nodes nodes) slot) (nodes_view children) (waiting pending.old) (waiting pending.new) }
 {
     let at = NodeId::new(nodes.len());

@@ -5,6 +5,9 @@ use Rattle.cdk_tree.specs.Slots.{fits_parent, fit_parents, constructs_in, number
 use Rattle.cdk_tree.specs.NodesView.{placed_nodes}
 use Rattle.cdk_tree.proofs.SlotLemmas.{constructs_in-push, fit_parents-push, length-constructs_in}
 use Rattle.cdk_tree.proofs.Numbered.{Index, indexed-push}
+use Rattle.std.proofs.Common.{subst}
+use Rattle.cdk_tree.specs.Slots.{AreScoped}
+use Rattle.cdk_tree.proofs.ScopeLemmas.{AreScoped-push}
 use Rattle.cdk_tree.proofs.nodes.Nodes.push.Goals as goal
 
 pub invariant_of-result-clause-rooted : goal.invariant_of-result-clause-rooted
@@ -23,3 +26,9 @@ invariant_of-result-clause-indexed c =
 
 pub returns : goal.returns
 returns c = ap constructs_in c.in_ok-push.ensures.ok ∙ constructs_in-push c.args.self.slots c.args.slot
+
+pub invariant_of-result-clause-scoped : goal.invariant_of-result-clause-scoped
+invariant_of-result-clause-scoped c =
+    let cs = placed_nodes c.args.self in
+    let made = constructs_in-push c.args.self.slots c.args.slot in
+    subst AreScoped (sym (ap constructs_in c.in_ok-push.ensures.ok ∙ made)) (AreScoped-push cs (placed_of cs c.args.slot) c.args.self.scoped c.requires.scopes)

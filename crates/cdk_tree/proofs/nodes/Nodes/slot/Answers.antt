@@ -21,4 +21,5 @@ returns c =
     record {
       placed = ap (placed_of (placed_nodes c.args.self.now)) (sym is) ∙ placed_at ss c.args.at s c.args.self.now.rooted within;
       below = ap (λ x. fits_parent c.args.at x.parent) (sym is) ∙ ap (λ n. fits_parent n (get_or ss c.args.at s).parent) (sym (zero-add c.args.at)) ∙ fits_at 0 ss c.args.at s c.args.self.now.rooted within;
+      scopes = c.args.self.now.scoped c.args.at c.requires;
     }
