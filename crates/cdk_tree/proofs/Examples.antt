@@ -1,15 +1,14 @@
 -- Small applications: their constructs, and what is wrong with them, computed by the definitions.
 use Rattle.std.proofs.Common.{◌≡◌, ℕ, List, [], ◌∷◌, map, codes, replicate, Option, Some, None, true, false, option_map, option_and_then, refl}
 use Rattle.std.specs.Fmt.{digits}
-use Rattle.serde_json.specs.Data.{Data, string}
+use Rattle.serde_json.specs.Data.{string}
 use Rattle.serde_json.specs.Read.{read}
 use Rattle.serde_json.proofs.OnLiterals.{serde_json_on_literals}
 use Rattle.cdk_base.specs.declared.code.Code.TheVariants.{BadId, SameId, BadPlace, NoTarget, WrongTarget}
 use Rattle.cdk_language.specs.Application.{application_of}
-use Rattle.cdk_language.specs.Expression as expression
 use Rattle.cdk_language.specs.declared.finding.Finding.{Finding}
 use Rattle.cdk_tree.specs.Expected.{target_findings, target_at}
-use Rattle.cdk_tree.specs.Lists.{list_lazies, is_list}
+use Rattle.cdk_tree.specs.Lists.{list_lazies}
 use Rattle.cdk_tree.specs.PlaceFindings.{place_findings, found_at, is_id}
 use Rattle.cdk_tree.specs.Placed.{Placed, constructs_of, construct_at, find_path, look_up}
 use Rattle.cdk_tree.specs.declared.role.Found.{Found}

@@ -1,7 +1,6 @@
 -- The findings of places, one construct at a time.
-use Rattle.std.proofs.Common.{◌≡◌, ◌<◌, ℕ, ◌+◌, List, [], ◌∷◌, ◌++◌, map, length, Bool, true, false, true≢false, Option, Some, None, refl, sym, ap, ◌∙◌, arith}
+use Rattle.std.proofs.Common.{◌≡◌, ◌<◌, ℕ, List, [], ◌∷◌, ◌++◌, map, length, Bool, true, false, true≢false, Some, None, refl, sym, ap, ◌∙◌}
 use Rattle.std.specs.Prelude.{not, is_some, if◌then◌else◌}
-use Rattle.std.specs.List.{list_any}
 use Rattle.std.specs.Str.{bytes_eq}
 use Rattle.std.proofs.lemmas.List.{append_assoc, append-nil}
 use Rattle.cdk_base.specs.declared.code.Code.{Code}
@@ -9,9 +8,9 @@ use Rattle.cdk_base.specs.declared.code.Code.TheVariants.{BadId, SameId, BadPlac
 use Rattle.cdk_language.specs.Construct.{Body, Head}
 use Rattle.cdk_language.specs.declared.finding.Finding.{Finding}
 use Rattle.cdk_tree.proofs.Numbered.{is_some-position}
-use Rattle.cdk_tree.proofs.PathLaw.{taken-paths, new_path}
+use Rattle.cdk_tree.proofs.PathLaw.{taken-paths}
 use Rattle.cdk_tree.specs.PlaceFindings.{first, found_at, findings_from, place_findings, has_taken_id, is_id, is_misplaced, when, wrong_at}
-use Rattle.cdk_tree.specs.Placed.{Placed, construct_at, find_path, path_in, placed_in}
+use Rattle.cdk_tree.specs.Placed.{Placed, construct_at, find_path, placed_in}
 use Rattle.cdk_tree.specs.Walking.{IsSound, wrong_code}
 
 pub findings_from-append : (before xs ys : List Placed) → findings_from before (xs ++ ys) ≡ findings_from before xs ++ findings_from (before ++ xs) ys

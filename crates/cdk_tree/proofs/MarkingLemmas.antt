@@ -1,15 +1,15 @@
 -- What is met, look by look: each look at a need keeps what holds of a marking, and at the end the marking is the least solution.
-use Rattle.std.proofs.Common.{◌≡◌, ◌≢◌, ◌<◌, ◌≤◌, ℕ, zero, suc, ◌+◌, ◌-◌, List, [], ◌∷◌, ◌++◌, map, length, get_or, Bool, true, false, true≢false, Option, Some, None, cond, refl, sym, ap, subst, ◌∙◌, inl, inr, zero-add, arith}
-use Rattle.std.specs.Prelude.{◌⊎◌, ◌&&◌, Contains, sum_by, replicate, nat_lt, MatchBool}
+use Rattle.std.proofs.Common.{◌≡◌, ◌≢◌, ◌<◌, ◌≤◌, ℕ, zero, suc, ◌+◌, ◌-◌, List, [], ◌∷◌, ◌++◌, length, get_or, Bool, true, false, true≢false, Option, Some, None, cond, refl, sym, ap, subst, ◌∙◌, inl, inr, zero-add, arith}
+use Rattle.std.specs.Prelude.{◌⊎◌, Contains, replicate, nat_lt, MatchBool}
 use Rattle.std.specs.List.{list_all}
 use Rattle.std.proofs.lemmas.Bool.{cases_eq, cases_lt, ltb-true, ltb-false}
 use Rattle.std.proofs.lemmas.List.{length-append, length-map, length-set, get_or-map, get_or-set_same, get_or-set_other, get_or_append_left, get_or-replicate, length-replicate, get_or_past, ext_get_or}
-use Rattle.std.proofs.lemmas.List.Elements.{Contains-append_left, Contains-append_cases, Contains-push, Contains-push_cases}
+use Rattle.std.proofs.lemmas.List.Elements.{Contains-append_left, Contains-push, Contains-push_cases}
 use Rattle.std.proofs.lemmas.List.Sums.{sum_by-set, sum_by-cons}
 use Rattle.std.proofs.Math.Seq.{get_or-append_seam}
 use Rattle.std.proofs.Math.ListN.{set}
 use Rattle.cdk_tree.proofs.Tests.{and_left, and_right, and_both, both_ways}
-use Rattle.cdk_tree.specs.Needs.{Needs, is_met, met_after, count_met, steps_left, AreWithin, Advances, IsAttended, IsCounted, IsFirstUnmet, IsMarked, IsMarking, IsMarkingOf, IsNew, IsParked, Settles, Waits}
+use Rattle.cdk_tree.specs.Needs.{Needs, is_met, met_after, count_met, steps_left, AreWithin, Advances, IsAttended, IsCounted, IsFirstUnmet, IsMarked, IsMarking, IsMarkingOf, IsNew, Settles, Waits}
 use Rattle.cdk_tree.specs.declared.marking.Marking.{Marking}
 
 -- ---- one more look
@@ -111,6 +111,7 @@ narrow ns from u batch p m w r is own = record {
   where
     here : (v : ℕ) (ls : List ℕ) → get_or ns v None ≡ Some ls → u ≡ v → IsAttended from batch ls v (get_or p v 0) m w r
     here v ls needs same = subst (λ x. IsAttended from batch ls x (get_or p x 0) m w r) same (own ls (ap (λ x. get_or ns x None) same ∙ needs))
+
     by : (v : ℕ) (ls : List ℕ) → get_or ns v None ≡ Some ls → IsAttended from (u ∷ batch) ls v (get_or p v 0) m w r → IsAttended from batch ls v (get_or p v 0) m w r
     by v ls needs (inl past) = inl past
     by v ls needs (inr (inr rest)) = inr (inr rest)
@@ -122,7 +123,6 @@ narrow ns from u batch p m w r is own = record {
 
 module _ (ns : Needs) (from u : ℕ) (batch p : List ℕ) (m : List Bool) (w : List (List ℕ)) (r : List ℕ) (is : IsMarkingOf ns from (u ∷ batch) p m w r)
     (ls : List ℕ) (within : u < length ns) (needs : get_or ns u None ≡ Some ls) (at : ℕ) (unmet : IsFirstUnmet ls m (get_or p u 0) at) where
-
   abbrev passed : List ℕ
   passed = set p u at
 
@@ -157,6 +157,7 @@ module _ (ns : Needs) (from u : ℕ) (batch p : List ℕ) (m : List Bool) (w : L
       split : (u ≡ v) ⊎ Contains batch v → Before v qs
       split (inl same) = absurd (other (sym same))
       split (inr later) = inr (inl later)
+
       by : IsAttended from (u ∷ batch) qs v (get_or p v 0) m w r → Before v qs
       by (inl past) = inl past
       by (inr (inl member)) = split (in_head u v batch member)
@@ -198,6 +199,7 @@ module _ (ns : Needs) (from u : ℕ) (batch p : List ℕ) (m : List Bool) (w : L
         rest (inr (inl member)) = inr (inl member)
         rest (inr (inr (inl met))) = inr (inr (inl met))
         rest (inr (inr (inr parked))) = inr (inr (inr (record { short = parked.short; waits = still (get_or qs (get_or p v 0) 0) v parked.waits; left = parked.left })))
+
         by : (v ≡ u) ⊎ (v ≡ u → ⊥) → IsAttended from batch qs v (get_or passed v 0) m longer r
         by (inl same) =
             let one : ls ≡ qs = same_needs ls qs (sym needs ∙ ap (λ x. get_or ns x None) (sym same) ∙ there) in
@@ -263,11 +265,13 @@ module _ (ns : Needs) (from u : ℕ) (batch p : List ℕ) (m : List Bool) (w : L
             which : (l ≡ u) ⊎ (l ≡ u → ⊥) → (get_or marks l false ≡ false) ⊎ Contains (r ++ u ∷ []) l
             which (inl same) = inr (subst (Contains (r ++ u ∷ [])) (sym same) (Contains-push r u))
             which (inr other) = inl (get_or-set_other m u l true false other ∙ h)
+
         rest : Before v qs → IsAttended from batch qs v (get_or p v 0) marks w (r ++ u ∷ [])
         rest (inl past) = inl past
         rest (inr (inl member)) = inr (inl member)
         rest (inr (inr (inl met))) = inr (inr (inl (set_met m u v met)))
         rest (inr (inr (inr parked))) = inr (inr (inr (record { short = parked.short; waits = parked.waits; left = still_left (get_or qs (get_or p v 0) 0) parked.left })))
+
         by : (v ≡ u) ⊎ (v ≡ u → ⊥) → IsAttended from batch qs v (get_or passed v 0) marks w (r ++ u ∷ [])
         by (inl same) = inr (inr (inl (ap (λ x. get_or marks x false) same ∙ marks_here)))
         by (inr other) = subst (λ k. IsAttended from batch qs v k marks w (r ++ u ∷ [])) (sym (get_or-set_other p u v at 0 other)) (rest (left_over v qs other inside there))
@@ -314,7 +318,7 @@ advanced ns from u batch old new ls inner is within needs fresh step true short 
     let leaf = get_or ls step.at 0 in
     record {
       marking = remade ns from batch new (set old.passed.items u step.at) old.met.items (set old.waiting.items leaf (get_or old.waiting.items leaf [] ++ u ∷ [])) old.ready.items step.passed rest.met rest.waiting rest.ready
-      (marking-wait ns from u batch old.passed.items old.met.items old.waiting.items old.ready.items is ls within needs step.at step.unmet less (inner u ls step.at needs less));
+          (marking-wait ns from u batch old.passed.items old.met.items old.waiting.items old.ready.items is ls within needs step.at step.unmet less (inner u ls step.at needs less));
       steps = omega (arith, ap count_met rest.met, ap length rest.ready);
     }
 advanced ns from u batch old new ls inner is within needs fresh step false long rest =
@@ -322,7 +326,7 @@ advanced ns from u batch old new ls inner is within needs fresh step false long 
     let steps = steps-mark ns from u batch old.passed.items old.met.items old.waiting.items old.ready.items is ls within needs step.at step.unmet all fresh in
     record {
       marking = remade ns from batch new (set old.passed.items u step.at) (set old.met.items u true) old.waiting.items (old.ready.items ++ u ∷ []) step.passed rest.met rest.waiting rest.ready
-      (marking-mark ns from u batch old.passed.items old.met.items old.waiting.items old.ready.items is ls within needs step.at step.unmet all fresh);
+          (marking-mark ns from u batch old.passed.items old.met.items old.waiting.items old.ready.items is ls within needs step.at step.unmet all fresh);
       steps = omega (arith, steps, ap count_met rest.met, ap length rest.ready);
     }
 
@@ -376,6 +380,7 @@ widen ns u m is = record {
       where
         not_equal : (a b : ℕ) → (a ≡ b → ⊥) → a ≢ b
         not_equal a b h = h
+
     by : (v : ℕ) (ls : List ℕ) → IsAttended u [] ls v (get_or m.passed.items v 0) m.met.items m.waiting.items m.ready.items → IsAttended (u + 1) (u ∷ []) ls v (get_or m.passed.items v 0) m.met.items m.waiting.items m.ready.items
     by v ls (inl past) = first v ls past (cases_eq v u)
     by v ls (inr (inl member)) = absurd (nothing_in v member)
@@ -398,6 +403,7 @@ module _ (ns : Needs) (p : List ℕ) (m : List Bool) (w : List (List ℕ)) (r : 
     where
       leaf : ℕ
       leaf = get_or ls (get_or p v 0) 0
+
       by : (get_or ls (get_or p v 0) 0 ≡ f) ⊎ (get_or ls (get_or p v 0) 0 ≡ f → ⊥) → IsAttended (length ns) (get_or w f []) ls v (get_or p v 0) m told r
       by (inl same) = inr (inl (subst (λ x. Contains (get_or w x []) v) same parked.waits))
       by (inr other) = inr (inr (inr (record {
@@ -409,6 +415,7 @@ module _ (ns : Needs) (p : List ℕ) (m : List Bool) (w : List (List ℕ)) (r : 
           which : (l : ℕ) → (l ≡ f → ⊥) → Contains r l ⊎ (f ≡ l) → (get_or m l false ≡ false) ⊎ Contains r l
           which l other (inl h) = inr h
           which l other (inr same) = absurd (other (sym same))
+
           still : (l : ℕ) → (l ≡ f → ⊥) → (get_or m l false ≡ false) ⊎ Contains (r ++ f ∷ []) l → (get_or m l false ≡ false) ⊎ Contains r l
           still l other (inl h) = inl h
           still l other (inr h) = which l other (Contains-push_cases r f l h)
@@ -450,6 +457,7 @@ module _ (ns : Needs) (inner : AreWithin ns) (p : List ℕ) (m : List Bool) (w :
     where
       met_leaf : get_or m (get_or ls (get_or p n 0) 0) false ≡ true
       met_leaf = below (get_or ls (get_or p n 0) 0) (inner n ls (get_or p n 0) needs parked.short) (list_all-at (λ l. get_or (met_after k ns) l false) ls (get_or p n 0) parked.short h)
+
       by : (get_or m (get_or ls (get_or p n 0) 0) false ≡ false) ⊎ Contains [] (get_or ls (get_or p n 0) 0) → ⊥
       by (inl unmet) = true≢false (sym met_leaf ∙ unmet)
       by (inr member) = nothing_in (get_or ls (get_or p n 0) 0) member

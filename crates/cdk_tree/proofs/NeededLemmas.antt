@@ -1,6 +1,6 @@
 -- An expression is a list exactly where the lazies that it needs are.
-use Rattle.std.proofs.Common.{◌≡◌, ◌<◌, ℕ, zero, suc, ◌+◌, List, [], ◌∷◌, ◌++◌, map, length, get_or, Bool, true, false, Option, Some, None, option_map, refl, sym, ap, subst, ◌∙◌, ◌-◌, ◌≤◌, inl, inr, arith}
-use Rattle.std.specs.Prelude.{◌&&◌, ◌⊎◌, if◌then◌else◌}
+use Rattle.std.proofs.Common.{◌≡◌, ◌<◌, ℕ, zero, suc, List, [], ◌∷◌, ◌++◌, map, length, get_or, Bool, true, false, Option, Some, None, option_map, refl, sym, ap, subst, ◌∙◌, ◌-◌, ◌≤◌, inl, inr, arith}
+use Rattle.std.specs.Prelude.{◌&&◌, ◌⊎◌}
 use Rattle.std.specs.List.{list_all}
 use Rattle.std.specs.Option.{option_map_or}
 use Rattle.std.specs.Str.{bytes_eq}
@@ -162,10 +162,13 @@ needs_within cs u ls k is less = by (cases_lt u (length cs))
   where
     f : Placed → Option (List ℕ)
     f c = needed_body cs c.contexts c.body
+
     count : length (all_needed cs) ≡ length cs
     count = length-map cs (let g : Placed → Option (List ℕ) = λ c. needed_body cs c.contexts c.body in g)
+
     past_end : None ≡ Some ls → ⊥
     past_end h = cc
+
     by : (u < length cs) ⊎ (length cs ≤ u) → get_or ls k 0 < length (all_needed cs)
     by (inl inside) =
         let here = construct_at cs u in

@@ -9,9 +9,9 @@ use Rattle.std.specs.Map.{lookup}
 use Rattle.std.specs.Prelude.{String}
 use Rattle.std.specs.declared.alloc.Global.{Global}
 use Rattle.std.proofs.lemmas.Bool.Decides.{nat_tests}
-use Rattle.std.proofs.lemmas.List.{length-append, length-map}
+use Rattle.std.proofs.lemmas.List.{length-map}
 use Rattle.std.specs.Prelude.{position, is_some, not, nat_lt, ◌||◌}
-use Rattle.std.specs.List.{list_any, position_or_len, prefix_len}
+use Rattle.std.specs.List.{list_any, position_or_len}
 use Rattle.cdk_tree.specs.Placed.{Placed, construct_at, find_path}
 use Rattle.cdk_tree.specs.Slots.{numbered_paths}
 

@@ -1,6 +1,6 @@
 -- Paths and ids: in sound constructs a path is taken exactly where a sibling has the id.
-use Rattle.std.proofs.Common.{◌≡◌, ◌≢◌, ◌<◌, ℕ, ◌+◌, List, [], ◌∷◌, ◌++◌, length, get_or, Bool, true, false, true≢false, Option, Some, None, cond, refl, sym, ap, subst, ◌∙◌, arith}
-use Rattle.std.specs.Prelude.{◌&&◌, ◌||◌, nat_eq, nat_le, not, Any}
+use Rattle.std.proofs.Common.{◌≡◌, ◌<◌, ℕ, List, [], ◌∷◌, ◌++◌, length, Bool, true, false, true≢false, Option, Some, None, refl, sym, ap, ◌∙◌, arith}
+use Rattle.std.specs.Prelude.{◌&&◌, nat_eq, nat_le}
 use Rattle.std.specs.List.{list_all, list_any}
 use Rattle.std.specs.Option.{option_eq}
 use Rattle.std.specs.Str.{bytes_eq}
@@ -67,7 +67,6 @@ bytes_eq-same a b e = (bytes_eq-Decides a b).1 e
 
 module _ (cs : List Placed) (sound : IsSound cs) (p : Placed) (m : ℕ) (within : m < length cs) (parent : p.parent ≡ Some m)
     (path : p.path ≡ path_in (construct_at cs m).path p.head.id) (right : is_id p.head.id ≡ true) where
-
   -- the construct of the path is a sibling of the id
   taken : (k : ℕ) → k < length cs → p.path ≡ (construct_at cs k).path → (o : Option ℕ) → (construct_at cs k).parent ≡ o → StandsIn cs k (construct_at cs k) o → (are_siblings p (construct_at cs k) && bytes_eq p.head.id (construct_at cs k).head.id) ≡ true
   taken k inside same None at stands = absurd (path_in-not_empty (construct_at cs m).path p.head.id right (sym path ∙ same ∙ stands))

@@ -1,5 +1,5 @@
 -- What a look refuses in an expression, part by part.
-use Rattle.std.proofs.Common.{◌≡◌, ◌∷◌, ◌++◌, ℕ, List, Bool, true, false, Box, Global, refl, sym, ap, ◌∙◌, rules}
+use Rattle.std.proofs.Common.{◌≡◌, ◌∷◌, ◌++◌, ℕ, List, Bool, true, false, Box, Global, ◌∙◌, rules}
 use Rattle.std.specs.List.{list_any}
 use Rattle.cdk_base.specs.declared.text.Text.{Text}
 use Rattle.cdk_language.specs.Expression as expression

@@ -1,17 +1,16 @@
 -- Stacks and stages of constructs stand no later than they do.
-use Rattle.std.proofs.Common.{◌≡◌, ◌<◌, ◌≤◌, ℕ, ◌+◌, List, [], ◌∷◌, ◌++◌, length, get_or, Bool, true, false, true≢false, Option, Some, None, refl, sym, ap, subst, ◌∙◌, inl, inr, arith}
+use Rattle.std.proofs.Common.{◌≡◌, ◌<◌, ◌≤◌, ℕ, List, [], ◌∷◌, ◌++◌, length, Bool, true, false, Option, Some, None, refl, ap, ◌∙◌, inl, inr, arith}
 use Rattle.std.specs.Prelude.{◌⊎◌, ◌&&◌, nat_le, if◌then◌else◌}
 use Rattle.std.specs.Option.{option_map_or}
 use Rattle.std.proofs.lemmas.Bool.{cases_lt, leb-true, le-leb}
 use Rattle.std.proofs.lemmas.List.{length-append, get_or_append_left}
 use Rattle.std.proofs.Math.Seq.{get_or-append_seam}
-use Rattle.cdk_language.specs.Construct.{Body, kind_view}
+use Rattle.cdk_language.specs.Construct.{kind_view}
 use Rattle.cdk_tree.specs.Placed.{Placed, construct_at, is_stack, is_stage, nowhere}
 use Rattle.cdk_tree.specs.Slots.{is_scoped, placed_of, slot_in, AreScoped}
 use Rattle.cdk_tree.specs.declared.part.Part.{Part}
 use Rattle.cdk_tree.specs.declared.slot.Slot.{Slot}
 use Rattle.cdk_tree.proofs.Tests.{and_left, and_right, and_both}
-
 
 -- what holds among some constructs holds among more
 stack_more : (cs : List Placed) (c : Placed) (m n : ℕ) (o : Option ℕ) → m < length cs → m ≤ n

@@ -1,12 +1,10 @@
 -- Sound constructs stay sound as the walk goes on, and it ends at the first thing that is wrong.
-use Rattle.std.proofs.Common.{◌≡◌, ◌<◌, ◌≤◌, ℕ, ◌+◌, List, [], ◌∷◌, ◌++◌, length, get_or, Bool, true, false, true≢false, Option, Some, None, Ok, Err, refl, sym, ap, ◌∙◌, subst, inl, inr, arith}
+use Rattle.std.proofs.Common.{◌≡◌, ◌<◌, ◌≤◌, ℕ, ◌+◌, List, [], ◌∷◌, ◌++◌, length, Bool, true, false, Option, Some, None, Ok, Err, refl, sym, ap, ◌∙◌, subst, inl, inr, arith}
 use Rattle.std.specs.Prelude.{not, is_some, if◌then◌else◌, ◌⊎◌}
-use Rattle.std.specs.List.{list_any}
 use Rattle.std.specs.Str.{bytes_eq}
 use Rattle.std.proofs.lemmas.Bool.{cases_lt}
 use Rattle.std.proofs.lemmas.List.{append-nil, get_or_append_left, length-append}
 use Rattle.std.proofs.Math.Seq.{get_or-append_seam}
-use Rattle.cdk_base.specs.declared.code.Code.{Code}
 use Rattle.cdk_base.specs.declared.code.Code.TheVariants.{BadId, SameId, BadPlace}
 use Rattle.cdk_base.specs.declared.fault.Fault.{Fault}
 use Rattle.cdk_base.specs.declared.fault.Fault.TheVariants as faults
@@ -17,9 +15,9 @@ use Rattle.cdk_tree.proofs.Numbered.{is_some-position}
 use Rattle.cdk_tree.proofs.PathLaw.{new_path}
 use Rattle.cdk_tree.proofs.WalkLemmas.{all_placed-next, still_to_place-children, AreBelow-more, AreBelow-children, size_of_all-children}
 use Rattle.cdk_tree.specs.NodesView.{placed_nodes}
-use Rattle.cdk_tree.specs.PlaceFindings.{found_at, is_id, is_misplaced, place_findings}
+use Rattle.cdk_tree.specs.PlaceFindings.{found_at, is_id, is_misplaced}
 use Rattle.cdk_tree.specs.Placed.{Placed, construct_at, constructs_of, find_path, nowhere, path_in, placed_in, root_placed, walk_children}
-use Rattle.cdk_tree.specs.Walking.{Waiting, all_placed, children_of, still_to_place, size, size_of_all, size_of_children, wrong_code, AreBelow, Completes, Enters, EntersRoot, IsSound, StandsIn}
+use Rattle.cdk_tree.specs.Walking.{Waiting, all_placed, children_of, still_to_place, size, size_of_all, wrong_code, AreBelow, Completes, Enters, EntersRoot, IsSound, StandsIn}
 use Rattle.cdk_tree.specs.declared.nodes.Nodes.{Nodes}
 
 -- where nothing is wrong, the id is right and the path is new
@@ -72,6 +70,7 @@ module _ (cs : List Placed) (sound : IsSound cs) (m : ℕ) (within : m < length 
     where
       path : Placed → List ℕ
       path c = c.path
+
       by : (j < length cs) ⊎ (length cs ≤ j) → (k < length cs) ⊎ (length cs ≤ k) → j ≡ k
       by (inl jl) (inl kl) = sound.apart j k jl kl (ap (λ (c : Placed). c.path) (sym (before j jl)) ∙ same ∙ ap (λ (c : Placed). c.path) (before k kl))
       by (inl jl) (inr kp) = absurd (fresh j jl (sym (ap (λ (c : Placed). c.path) (sym (before j jl)) ∙ same ∙ ap (λ n. (construct_at done n).path) (at_last k right kp) ∙ ap (λ (c : Placed). c.path) itself)))
@@ -97,7 +96,7 @@ goes_on cs m h b kids ws done after sound within below none placed left =
     record {
       sound = subst IsSound (sym placed) (IsSound-next cs sound m within h b none);
       below = subst (λ n. AreBelow n after) (sym (ap length placed ∙ grown))
-      (subst (AreBelow (length cs + 1)) (sym left) (AreBelow-children (length cs + 1) (length cs) kids ws (omega arith) (AreBelow-more (length cs) ws below)));
+          (subst (AreBelow (length cs + 1)) (sym left) (AreBelow-children (length cs + 1) (length cs) kids ws (omega arith) (AreBelow-more (length cs) ws below)));
       all = all_placed-next cs m h b kids ws below ∙ ap (λ l. all_placed l (children_of (length cs) kids ++ ws)) (sym placed) ∙ ap (all_placed done) (sym left);
       smaller = omega (arith, ap size_of_all left, size_of_all-children (length cs) kids ws);
     }

@@ -1,13 +1,13 @@
 -- The walk over an application: what waits, and what is placed.
 use Rattle.std.proofs.Common.{◌≡◌, ◌<◌, ℕ, ◌+◌, List, [], ◌∷◌, ◌++◌, map, reverse, length, refl, sym, ap, ◌∙◌, arith}
-use Rattle.std.proofs.lemmas.List.{append_assoc, length-append, map-append, reverse-append, append-nil, get_or_append_left}
+use Rattle.std.proofs.lemmas.List.{append_assoc, length-append, map-append, reverse-append, get_or_append_left}
 use Rattle.std.proofs.Math.Seq.{get_or-append_seam}
 use Rattle.std.proofs.Common.{add-zero}
 use Rattle.cdk_language.specs.Construct as language
 use Rattle.cdk_language.specs.Construct.{Body, Construct, Constructs, Head, nodes_view, node_view}
 use Rattle.cdk_language.specs.declared.construct.Node.{Node}
 use Rattle.cdk_tree.specs.Placed.{Placed, construct_at, placed_in, walk, walk_children, nowhere}
-use Rattle.cdk_tree.specs.Walking.{Waiting, pending_view, waiting, children_of, still_to_place, all_placed, size, size_of_children, size_of_all, AreBelow}
+use Rattle.cdk_tree.specs.Walking.{Waiting, pending_view, waiting, children_of, still_to_place, all_placed, size_of_children, size_of_all, AreBelow}
 use Rattle.cdk_tree.specs.declared.pending.Pending.{Pending}
 
 pub waiting-push : (ps : List Pending) (p : Pending) → waiting (ps ++ p ∷ []) ≡ pending_view p ∷ waiting ps

@@ -1,6 +1,6 @@
 -- What the expressions of constructs ask of their targets and of what stands in them, and what is wrong with it (CloudFormation's
 -- intrinsic functions; own for paths, Context and Lazy).
-use Rattle.std.specs.Prelude.{ℕ, ◌+◌, ◌&&◌, ◌||◌, List, [], ◌∷◌, ◌++◌, map, not, Bool, true, false, if◌then◌else◌, Option, Some, None, is_none}
+use Rattle.std.specs.Prelude.{ℕ, ◌+◌, ◌&&◌, ◌||◌, List, [], ◌∷◌, ◌++◌, map, not, Bool, true, false, Option, Some, None, is_none}
 use Rattle.std.specs.List.{list_any}
 use Rattle.std.specs.Option.{option_map_or}
 use Rattle.serde_json.specs.Data.{Data, Members, array, object}

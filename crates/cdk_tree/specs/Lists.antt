@@ -1,5 +1,5 @@
 -- Which expressions are lists (own, after CloudFormation's list type of parameters and its functions that give lists).
-use Rattle.std.specs.Prelude.{ℕ, zero, suc, ◌&&◌, List, map, length, slice_index_or, Bool, true, false, Option}
+use Rattle.std.specs.Prelude.{ℕ, zero, suc, ◌&&◌, List, map, length, slice_index_or, Bool, true, false}
 use Rattle.std.specs.Option.{option_map_or}
 use Rattle.serde_json.specs.Data.{Data, Members, array}
 use Rattle.cdk_language.specs.Construct as language

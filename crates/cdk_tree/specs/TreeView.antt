@@ -1,10 +1,9 @@
 -- The constructs of a `Tree`, and what a look at them refuses.
 use Rattle.std.specs.Prelude.{◌≡◌, ℕ, List, [], Bool, Some, Result, Ok, Err}
-use Rattle.std.specs.List.{list_any}
 use Rattle.cdk_base.specs.declared.fault.Fault.{Fault}
 use Rattle.cdk_base.specs.declared.fault.Fault.TheVariants as faults
 use Rattle.cdk_language.specs.Construct.{Application}
-use Rattle.cdk_tree.specs.Expected.{Expected, refuses, target_findings}
+use Rattle.cdk_tree.specs.Expected.{Expected, refuses}
 use Rattle.cdk_tree.specs.Lists.{list_lazies}
 use Rattle.cdk_tree.specs.NodesView.{placed_nodes}
 use Rattle.cdk_tree.specs.PlaceFindings.{first, found_at, place_findings}

@@ -1,5 +1,5 @@
 -- What the walk over an application has placed and what is still to be placed (own).
-use Rattle.std.specs.Prelude.{◌≡◌, ◌<◌, ℕ, ◌+◌, List, [], ◌∷◌, ◌++◌, map, reverse, length, Bool, true, not, if◌then◌else◌, Option, Some, None, is_some, Result, Ok, Err, String, string_bytes}
+use Rattle.std.specs.Prelude.{◌≡◌, ◌<◌, ℕ, ◌+◌, List, [], ◌∷◌, ◌++◌, map, reverse, length, true, not, if◌then◌else◌, Option, Some, None, is_some, Result, Ok, Err, String, string_bytes}
 use Rattle.std.specs.declared.alloc.Global.{Global}
 use Rattle.cdk_base.specs.declared.code.Code.{Code}
 use Rattle.cdk_base.specs.declared.code.Code.TheVariants.{BadId, SameId, BadPlace}

@@ -76,11 +76,7 @@ pub fn finds_array(nodes: &Nodes, at: NodeId, key: &str, default: &Option<Value>
 fn met_where(alloc: Global, met: bool) -> Option<List<usize>>
     ensures { result ≡ spec_met_where met }
 {
-    if met {
-        Some(List::new(alloc))
-    } else {
-        None
-    }
+    if met { Some(List::new(alloc)) } else { None }
 }
 
 fn both(
@@ -99,11 +95,7 @@ fn both(
     Ok(Some(all))
 }
 
-fn needed_lazy(
-    alloc: Global,
-    nodes: &Nodes,
-    path: &str,
-) -> Result<Option<List<usize>>, AllocError>
+fn needed_lazy(alloc: Global, nodes: &Nodes, path: &str) -> Result<Option<List<usize>>, AllocError>
     ensures { IfOk result (λ r. r ≡ option_map (λ n. n ∷ []) (find_path (placed_nodes nodes.now) path.now)) }
 {
     let Some(lazy) = nodes.find(path) else {

@@ -43,7 +43,10 @@ impl Nodes {
         requires scopes { is_scoped (placed_nodes self ++ placed_of (placed_nodes self) slot ∷ []) (length (placed_nodes self)) (placed_of (placed_nodes self) slot) ≡ true }
         ensures { IfOk result (λ t. placed_nodes t ≡ placed_nodes self ++ placed_of (placed_nodes self) slot ∷ []) }
     {
-        let Nodes { mut slots, mut paths } = self;
+        let Nodes {
+            mut slots,
+            mut paths,
+        } = self;
         let at = NodeId::new(slots.len());
         paths.insert(path, at)?;
         slots.push(slot)?;

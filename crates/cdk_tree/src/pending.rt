@@ -1,4 +1,3 @@
-
 use crate::node_id::NodeId;
 use cdk_language::Node;
 

@@ -234,11 +234,7 @@ fn enter(
 }
 
 /// Places all constructs that wait.
-fn enter_all(
-    alloc: Global,
-    mut nodes: Nodes,
-    mut pending: List<Pending>,
-) -> Result<Nodes, Fault>
+fn enter_all(alloc: Global, mut nodes: Nodes, mut pending: List<Pending>) -> Result<Nodes, Fault>
     requires sound { IsSound (placed_nodes nodes) }
     requires below { AreBelow (length (placed_nodes nodes)) (waiting pending) }
     ensures { Completes result (all_placed (placed_nodes nodes) (waiting pending)) }
@@ -252,11 +248,7 @@ fn enter_all(
     Ok(nodes)
 }
 
-fn enter_root(
-    alloc: Global,
-    pending: &mut List<Pending>,
-    root: Node,
-) -> Result<Nodes, Fault>
+fn enter_root(alloc: Global, pending: &mut List<Pending>, root: Node) -> Result<Nodes, Fault>
     ensures { EntersRoot result (node_view root) (waiting pending.old) (waiting pending.new) }
 {
     let (part, children) = take_apart(root);

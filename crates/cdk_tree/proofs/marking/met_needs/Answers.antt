@@ -1,4 +1,4 @@
-use Rattle.std.proofs.Common.{◌≡◌, [], length, subst}
+use Rattle.std.proofs.Common.{[], length, subst}
 use Rattle.cdk_tree.specs.Needs.{IsMarkingOf}
 use Rattle.cdk_tree.proofs.MarkingLemmas.{all_marked}
 use Rattle.cdk_tree.proofs.marking.met_needs.Goals as goal

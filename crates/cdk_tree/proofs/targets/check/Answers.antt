@@ -1,10 +1,10 @@
-use Rattle.std.proofs.Common.{◌≡◌, ◌∷◌, ◌++◌, ◌+◌, ◌<◌, ℕ, List, [], length, drop, get_or, map, Option, Some, None, sym, ap, ◌∙◌, arith}
+use Rattle.std.proofs.Common.{◌≡◌, ◌∷◌, ◌++◌, ◌+◌, ℕ, List, [], drop, map, Some, None, sym, ap, ◌∙◌, arith}
 use Rattle.std.proofs.lemmas.List.{drop_more}
 use Rattle.cdk_base.specs.declared.code.Code.{Code}
 use Rattle.cdk_tree.specs.Expected.{target_at, target_findings_from, wrong_targets_at}
 use Rattle.cdk_tree.specs.Lists.{list_lazies}
 use Rattle.cdk_tree.specs.PlaceFindings.{first}
-use Rattle.cdk_tree.specs.Placed.{Placed, construct_at, nowhere}
+use Rattle.cdk_tree.specs.Placed.{construct_at, nowhere}
 use Rattle.cdk_tree.specs.TreeView.{constructs}
 use Rattle.cdk_tree.specs.declared.role.Found.{Found}
 use Rattle.cdk_tree.proofs.Findings.{first-none}

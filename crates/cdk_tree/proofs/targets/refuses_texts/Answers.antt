@@ -1,4 +1,4 @@
-use Rattle.std.proofs.Common.{◌≡◌, ◌∷◌, sym, ◌∙◌}
+use Rattle.std.proofs.Common.{◌∷◌, sym, ◌∙◌}
 use Rattle.cdk_language.specs.Expression.{view}
 use Rattle.cdk_tree.specs.Expected.{expected, text_place}
 use Rattle.cdk_tree.specs.TreeView.{is_refused}

@@ -1,7 +1,7 @@
-use Rattle.std.proofs.Common.{◌≡◌, ◌<◌, ℕ, List, ◌∷◌, length, Ok, Err, ap, sym, ◌∙◌, subst}
+use Rattle.std.proofs.Common.{◌≡◌, ◌<◌, ◌∷◌, length, Err, ap, sym, ◌∙◌, subst}
 use Rattle.cdk_language.specs.Construct.{node_view}
 use Rattle.cdk_tree.specs.NodesView.{placed_nodes}
-use Rattle.cdk_tree.specs.Walking.{Waiting, all_placed, pending_view, size_of_all, waiting, AreBelow, Completes, Enters}
+use Rattle.cdk_tree.specs.Walking.{all_placed, pending_view, size_of_all, waiting, AreBelow, Completes}
 use Rattle.cdk_tree.proofs.WalkLemmas.{waiting-push}
 use Rattle.cdk_tree.proofs.SoundLemmas.{next_ok, next_err}
 use Rattle.cdk_tree.proofs.walking.enter_all.Goals as goal

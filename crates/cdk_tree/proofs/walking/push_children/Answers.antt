@@ -1,4 +1,4 @@
-use Rattle.std.proofs.Common.{◌≡◌, ◌∷◌, ◌++◌, [], sym, ap, ◌∙◌}
+use Rattle.std.proofs.Common.{◌++◌, sym, ap, ◌∙◌}
 use Rattle.cdk_language.specs.Construct.{nodes_view}
 use Rattle.cdk_tree.specs.Walking.{children_of, waiting}
 use Rattle.cdk_tree.proofs.WalkLemmas.{waiting-push, children_of-push}

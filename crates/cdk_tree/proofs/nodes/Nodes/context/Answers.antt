@@ -1,12 +1,11 @@
-use Rattle.std.proofs.Common.{◌≡◌, ◌<◌, ℕ, List, ◌∷◌, length, Option, Some, None, option_map, true, ap, sym, ◌∙◌, arith}
+use Rattle.std.proofs.Common.{◌≡◌, ◌<◌, ℕ, length, Option, Some, None, option_map, true, ap, sym, ◌∙◌, arith}
 use Rattle.std.proofs.lemmas.Bool.{ltb-true}
 use Rattle.std.specs.Prelude.{MatchOption}
 use Rattle.std.specs.Option.{option_or}
-use Rattle.serde_json.specs.Data.{Data, Members}
 use Rattle.serde_json.specs.Find.{get_member}
 use Rattle.serde_json.specs.View.{view as json_view, members_view}
 use Rattle.serde_json.proofs.Views.{view-lookup}
-use Rattle.cdk_tree.specs.Placed.{Placed, construct_at, look_up}
+use Rattle.cdk_tree.specs.Placed.{Placed, look_up}
 use Rattle.cdk_tree.specs.Slots.{contexts_above, fits_parent}
 use Rattle.cdk_tree.specs.NodesView.{placed_nodes}
 use Rattle.cdk_tree.proofs.nodes.Nodes.context.Goals as goal
@@ -37,5 +36,5 @@ loop-next-preserved c =
     record {
       inside = parent_inside c.in-Some.scope (length cs) slot.parent (rw c.in-Some.is at c.loop-next.invariant.inside) c.slot-slot.ensures.below;
       same = c.loop-next.invariant.same ∙ ap (λ p. look_up key (contexts_above cs p)) c.in-Some.is
-      ∙ ap (λ (p : Placed). look_up key p.contexts) (sym c.slot-slot.ensures.placed) ∙ ap (λ o. option_or o rest) none;
+          ∙ ap (λ (p : Placed). look_up key p.contexts) (sym c.slot-slot.ensures.placed) ∙ ap (λ o. option_or o rest) none;
     }

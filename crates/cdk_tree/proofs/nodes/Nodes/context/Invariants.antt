@@ -1,4 +1,4 @@
-use Rattle.std.proofs.Common.{◌≡◌, ◌<◌, ℕ, length, suc}
+use Rattle.std.proofs.Common.{◌≡◌, ◌<◌, length, suc}
 use Rattle.std.specs.Prelude.{MatchOption}
 use Rattle.std.specs.Option.{option_map_or}
 use Rattle.cdk_tree.specs.Placed.{construct_at, look_up}

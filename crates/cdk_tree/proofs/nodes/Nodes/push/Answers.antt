@@ -1,10 +1,10 @@
-use Rattle.std.proofs.Common.{◌≡◌, ◌+◌, ap, sym, ◌∙◌, length, ◌++◌, ◌∷◌, [], zero-add, arith}
+use Rattle.std.proofs.Common.{◌≡◌, ◌+◌, ap, sym, ◌∙◌, length, arith}
 use Rattle.std.specs.String.{string_eq}
 use Rattle.indexmap.specs.IndexMap.{insert_entry}
 use Rattle.cdk_tree.specs.Slots.{fits_parent, fit_parents, constructs_in, numbered_paths, placed_of}
 use Rattle.cdk_tree.specs.NodesView.{placed_nodes}
 use Rattle.cdk_tree.proofs.SlotLemmas.{constructs_in-push, fit_parents-push, length-constructs_in}
-use Rattle.cdk_tree.proofs.Numbered.{Index, indexed-push}
+use Rattle.cdk_tree.proofs.Numbered.{indexed-push}
 use Rattle.std.proofs.Common.{subst}
 use Rattle.cdk_tree.specs.Slots.{AreScoped}
 use Rattle.cdk_tree.proofs.ScopeLemmas.{AreScoped-push}
