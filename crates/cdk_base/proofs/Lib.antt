@@ -1,2 +1,5 @@
 pub mod Back
+pub mod Canonical
 pub mod Laid
+pub mod Parsed
+pub mod ReadValues

@@ -1,8 +1,9 @@
 -- Texts of JSON values, and the keys that make an object an intrinsic.
 use Rattle.std.specs.Prelude.{ℕ, ◌^◌, pos, negsuc, List, Bool, true, false, ◌||◌, Option, Some, None, nat_lt, if◌then◌else◌, codes, nat_eq}
 use Rattle.std.specs.List.{starts_with}
-use Rattle.std.specs.Str.{bytes_eq}
+use Rattle.std.specs.Str.{bytes_eq, is_utf8}
 use Rattle.serde_json.specs.Data.{Num, unsigned, negative, float, Data, null, boolean, number, string, array, object}
+use Rattle.serde_json.specs.Read.{read}
 use Rattle.serde_json.specs.Written.{number_text}
 
 -- The number is whole and within 64 bits, signed or not. JSON's other numbers are no literals here (own profile).
@@ -33,3 +34,8 @@ is_intrinsic_key k = bytes_eq k (codes "Ref") || starts_with nat_eq k (codes "Fn
 -- A key that makes an object of an application one of its forms: the intrinsics and the application's own.
 abbrev pub is_form_key : List ℕ → Bool
 is_form_key k = is_intrinsic_key k || starts_with nat_eq k (codes "CDK::")
+
+-- The value of a text, where the bytes are UTF-8 and JSON (RFC 8259) that nests at most 127 deep. Of equal keys of an
+-- object the last one counts, and a number that is no float's and not whole of 64 bits makes the text none.
+abbrev pub parsed : List ℕ → Option Data
+parsed bytes = if is_utf8 bytes then read bytes else None

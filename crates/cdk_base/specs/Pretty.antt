@@ -44,19 +44,30 @@ abbrev pub AllAbove : List ℕ → Members → Type 0
 AllAbove k no_members = ⊤
 AllAbove k (member l d ms) = (slice_cmp nat_cmp l k ≡ Greater) × AllAbove k ms
 
-abbrev mutual
-  pub IsCanonical : Data → Type 0
-  IsCanonical null = ⊤
-  IsCanonical (boolean b) = ⊤
-  IsCanonical (number x) = IsWhole x
-  IsCanonical (string s) = ⊤
-  IsCanonical (array ds) = ItemsAreCanonical ds
-  IsCanonical (object ms) = MembersAreCanonical ms
+-- the keys of each object ascend, and each number is one of these
+module _ (IsNumber : Num → Type 0) where
+  abbrev mutual
+    pub IsOrdered : Data → Type 0
+    IsOrdered null = ⊤
+    IsOrdered (boolean b) = ⊤
+    IsOrdered (number x) = IsNumber x
+    IsOrdered (string s) = ⊤
+    IsOrdered (array ds) = ItemsAreOrdered ds
+    IsOrdered (object ms) = MembersAreOrdered ms
 
-  pub ItemsAreCanonical : Items → Type 0
-  ItemsAreCanonical no_items = ⊤
-  ItemsAreCanonical (item d ds) = IsCanonical d × ItemsAreCanonical ds
+    pub ItemsAreOrdered : Items → Type 0
+    ItemsAreOrdered no_items = ⊤
+    ItemsAreOrdered (item d ds) = IsOrdered d × ItemsAreOrdered ds
 
-  pub MembersAreCanonical : Members → Type 0
-  MembersAreCanonical no_members = ⊤
-  MembersAreCanonical (member k d ms) = IsCanonical d × (AllAbove k ms × MembersAreCanonical ms)
+    pub MembersAreOrdered : Members → Type 0
+    MembersAreOrdered no_members = ⊤
+    MembersAreOrdered (member k d ms) = IsOrdered d × (AllAbove k ms × MembersAreOrdered ms)
+
+abbrev pub IsCanonical : Data → Type 0
+IsCanonical = IsOrdered IsWhole
+
+abbrev pub ItemsAreCanonical : Items → Type 0
+ItemsAreCanonical = ItemsAreOrdered IsWhole
+
+abbrev pub MembersAreCanonical : Members → Type 0
+MembersAreCanonical = MembersAreOrdered IsWhole

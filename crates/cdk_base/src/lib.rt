@@ -4,12 +4,14 @@
 mod code;
 mod fault;
 mod marker;
+mod parsing;
 mod text;
 mod value_text;
 
 pub use code::Code;
 pub use fault::Fault;
 pub use marker::has_marker;
+pub use parsing::parse;
 pub use serde_json::Value;
 pub use sqlite_items::Items as List;
 pub use text::Text;

@@ -1,5 +1,6 @@
 // Texts that are made of JSON values.
 ghost use Rattle.std.specs.Prelude.{◌≡◌, ◌≤◌, false, Some, IfOk};
+ghost use Rattle.std.specs.Str.{IsUtf8};
 ghost use Rattle.json.specs.Print.{quoted};
 ghost use Rattle.serde_json.specs.Data.{Data, depth};
 ghost use Rattle.serde_json.specs.Read.{read, max_depth};
@@ -57,6 +58,7 @@ pub fn pretty_bytes(alloc: Global, value: &Value) -> Result<Vec<u8>, AllocError>
     requires no_float { has_float (view value.now) ≡ false }
     requires shallow { depth (view value.now) ≤ max_depth }
     ensures text { IfOk result (λ b. b.items ≡ pretty_text (view value.now)) }
+    ensures utf8 { IfOk result (λ b. IsUtf8 b.items) }
     ensures reads_back { IfOk result (λ b. read b.items ≡ Some (view value.now)) }
 {
     value.to_vec_pretty(alloc)

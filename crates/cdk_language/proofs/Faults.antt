@@ -1,6 +1,6 @@
 -- Small documents and what is wrong with them, computed by the definitions. The documents and their faults are this
 -- project's own worked examples.
-use Rattle.std.proofs.Common.{◌≡◌, ℕ, List, [], ◌∷◌, codes, Some, option_map, refl}
+use Rattle.std.proofs.Common.{◌≡◌, ℕ, List, [], ◌∷◌, ◌++◌, codes, Option, Some, option_map, refl}
 use Rattle.std.specs.Fmt.{digits}
 use Rattle.serde_json.specs.Read.{read}
 use Rattle.serde_json.proofs.OnLiterals.{serde_json_on_literals}
@@ -326,6 +326,186 @@ depends_on_a_number : option_map findings (read (codes "{\"app\":\"1\",\"childre
     ≡ Some (at Shape (codes "/children/0/dependsOn/1") ∷ [])
 unfolding serde_json_on_literals digits
 depends_on_a_number = refl
+
+kind_null : option_map findings (read (codes "{\"app\":\"1\",\"children\":[{\"kind\":null,\"id\":\"x\"}]}"))
+    ≡ Some (at Shape (codes "/children/0/kind") ∷ [])
+unfolding serde_json_on_literals digits
+kind_null = refl
+
+with_null : option_map findings (read (codes "{\"app\":\"1\",\"children\":[],\"aspects\":[{\"name\":\"a\",\"with\":null}]}"))
+    ≡ Some (at Shape (codes "/aspects/0/with") ∷ [])
+unfolding serde_json_on_literals digits
+with_null = refl
+
+context_array : option_map findings (read (codes "{\"app\":\"1\",\"children\":[],\"context\":[]}"))
+    ≡ Some (at Shape (codes "/context") ∷ [])
+unfolding serde_json_on_literals digits
+context_array = refl
+
+context_of_a_lazy : option_map findings (read (codes "{\"app\":\"1\",\"children\":[{\"kind\":\"stack\",\"id\":\"S\",\"children\":[{\"kind\":\"lazy\",\"id\":\"L\",\"value\":1,\"context\":{\"a\":[null,{\"Fn::b\":1}]}}]}]}"))
+    ≡ Some (at Shape (codes "/children/0/children/0/context/a/0") ∷ at Shape (codes "/children/0/children/0/context/a/1/Fn::b") ∷ [])
+unfolding serde_json_on_literals digits
+context_of_a_lazy = refl
+
+policy : option_map findings (read (codes "{\"app\":\"1\",\"children\":[{\"kind\":\"stack\",\"id\":\"S\",\"children\":[{\"kind\":\"resource\",\"id\":\"R\",\"type\":\"Own::T\",\"deletionPolicy\":\"RetainExceptOnCreate\"}]}]}"))
+    ≡ Some (at Shape (codes "/children/0/children/0/deletionPolicy") ∷ [])
+unfolding serde_json_on_literals digits
+policy = refl
+
+parameter : option_map findings (read (codes "{\"app\":\"1\",\"children\":[{\"kind\":\"stack\",\"id\":\"S\",\"children\":[{\"kind\":\"parameter\",\"id\":\"P\",\"type\":\"List<String>\",\"default\":5}]}]}"))
+    ≡ Some (at Shape (codes "/children/0/children/0/default") ∷ at Shape (codes "/children/0/children/0/type") ∷ [])
+unfolding serde_json_on_literals digits
+parameter = refl
+
+output_without_value : option_map findings (read (codes "{\"app\":\"1\",\"children\":[{\"kind\":\"stack\",\"id\":\"S\",\"children\":[{\"kind\":\"output\",\"id\":\"O\"}]}]}"))
+    ≡ Some (at Shape (codes "/children/0/children/0") ∷ [])
+unfolding serde_json_on_literals digits
+output_without_value = refl
+
+long_export_name : option_map findings (read (codes "{\"app\":\"1\",\"children\":[{\"kind\":\"stack\",\"id\":\"S\",\"children\":[{\"kind\":\"output\",\"id\":\"O\",\"value\":1,\"exportName\":\"xxxxxxxxxxxxxxxxxxxxxxxxxxxxxxxxxxxxxxxxxxxxxxxxxxxxxxxxxxxxxxxxxxxxxxxxxxxxxxxxxxxxxxxxxxxxxxxxxxxxxxxxxxxxxxxxxxxxxxxxxxxxxxxxxxxxxxxxxxxxxxxxxxxxxxxxxxxxxxxxxxxxxxxxxxxxxxxxxxxxxxxxxxxxxxxxxxxxxxxxxxxxxxxxxxxxxxxxxxxxxxxxxxxxxxxxxxxxxxxxxxxxxxxxxxxxxxxx\"}]}]}"))
+    ≡ Some (at Shape (codes "/children/0/children/0/exportName") ∷ [])
+unfolding serde_json_on_literals digits
+long_export_name = refl
+
+characters_of_an_export_name : option_map findings (read (codes "{\"app\":\"1\",\"children\":[{\"kind\":\"stack\",\"id\":\"S\",\"children\":[{\"kind\":\"output\",\"id\":\"O\",\"value\":1,\"exportName\":\"ééééééééééééééééééééééééééééééééééééééééééééééééééééééééééééééééééééééééééééééééééééééééééééééééééééééééééééééééééééééééééééééééééééééééééééééééééééééééééééééééééééééééééééééééééééééééééééééééééééééééééééééééééééééééééééééééééééééééééééééééééééééééééééééé\"}]}]}"))
+    ≡ Some ([])
+unfolding serde_json_on_literals digits
+characters_of_an_export_name = refl
+
+id_not_whole : option_map findings (read (codes "{\"app\":\"1\",\"children\":[{\"kind\":\"group\",\"id\":1.5,\"children\":[]}]}"))
+    ≡ Some (at Shape (codes "/children/0/id") ∷ at Number (codes "/children/0/id") ∷ [])
+unfolding serde_json_on_literals digits
+id_not_whole = refl
+
+mapping_row : option_map findings (read (codes "{\"app\":\"1\",\"children\":[{\"kind\":\"stack\",\"id\":\"S\",\"children\":[{\"kind\":\"mapping\",\"id\":\"M\",\"mappings\":{\"a\":1,\"Ref\":{\"Fn::x\":\"y\"}}}]}]}"))
+    ≡ Some (at Shape (codes "/children/0/children/0/mappings/a") ∷ [])
+unfolding serde_json_on_literals digits
+mapping_row = refl
+
+concat_of_no_array : option_map findings (read (codes "{\"app\":\"1\",\"children\":[{\"kind\":\"stack\",\"id\":\"S\",\"children\":[{\"kind\":\"resource\",\"id\":\"R\",\"type\":\"Own::T\",\"properties\":{\"P\":{\"CDK::Concat\":\"x\"}}}]}]}"))
+    ≡ Some (at Shape (codes "/children/0/children/0/properties/P/CDK::Concat") ∷ [])
+unfolding serde_json_on_literals digits
+concat_of_no_array = refl
+
+run_cut_by_a_context : option_map findings (read (codes "{\"app\":\"1\",\"children\":[{\"kind\":\"stack\",\"id\":\"S\",\"children\":[{\"kind\":\"resource\",\"id\":\"R\",\"type\":\"Own::T\",\"properties\":{\"P\":{\"CDK::Concat\":[\"${Tok\",{\"CDK::Context\":[\"k\",\"en[\"]}]}}}]}]}"))
+    ≡ Some ([])
+unfolding serde_json_on_literals digits
+run_cut_by_a_context = refl
+
+run_in_a_used_variable : option_map findings (read (codes "{\"app\":\"1\",\"children\":[{\"kind\":\"stack\",\"id\":\"S\",\"children\":[{\"kind\":\"resource\",\"id\":\"R\",\"type\":\"Own::T\",\"properties\":{\"P\":{\"Fn::Sub\":[\"${a}\",{\"a\":{\"CDK::Concat\":[\"#{Token\",\"[\"]}}]}}}]}]}"))
+    ≡ Some (at LiteralMarker (codes "/children/0/children/0/properties/P") ∷ at LiteralMarker (codes "/children/0/children/0/properties/P/Fn::Sub/1/a") ∷ [])
+unfolding serde_json_on_literals digits
+run_in_a_used_variable = refl
+
+run_after_a_sub_that_is_not_cut : option_map findings (read (codes "{\"app\":\"1\",\"children\":[{\"kind\":\"stack\",\"id\":\"S\",\"children\":[{\"kind\":\"resource\",\"id\":\"R\",\"type\":\"Own::T\",\"properties\":{\"P\":{\"CDK::Concat\":[{\"Fn::Sub\":\"${!Tok}${\"},\"x\"]}}}]}]}"))
+    ≡ Some (at Shape (codes "/children/0/children/0/properties/P/CDK::Concat/0/Fn::Sub") ∷ [])
+unfolding serde_json_on_literals digits
+run_after_a_sub_that_is_not_cut = refl
+
+empty_path_in_a_sub : option_map findings (read (codes "{\"app\":\"1\",\"children\":[{\"kind\":\"stack\",\"id\":\"S\",\"children\":[{\"kind\":\"resource\",\"id\":\"R\",\"type\":\"Own::T\",\"properties\":{\"P\":{\"Fn::Sub\":\"${.A}\"}}}]}]}"))
+    ≡ Some (at Shape (codes "/children/0/children/0/properties/P/Fn::Sub") ∷ [])
+unfolding serde_json_on_literals digits
+empty_path_in_a_sub = refl
+
+empty_attribute_in_a_sub : option_map findings (read (codes "{\"app\":\"1\",\"children\":[{\"kind\":\"stack\",\"id\":\"S\",\"children\":[{\"kind\":\"resource\",\"id\":\"R\",\"type\":\"Own::T\",\"properties\":{\"P\":{\"Fn::Sub\":\"${A.}\"}}}]}]}"))
+    ≡ Some (at Shape (codes "/children/0/children/0/properties/P/Fn::Sub") ∷ [])
+unfolding serde_json_on_literals digits
+empty_attribute_in_a_sub = refl
+
+kept_nothing_in_a_sub : option_map findings (read (codes "{\"app\":\"1\",\"children\":[{\"kind\":\"stack\",\"id\":\"S\",\"children\":[{\"kind\":\"resource\",\"id\":\"R\",\"type\":\"Own::T\",\"properties\":{\"P\":{\"Fn::Sub\":\"${!}\"}}}]}]}"))
+    ≡ Some ([])
+unfolding serde_json_on_literals digits
+kept_nothing_in_a_sub = refl
+
+variables_of_no_object : option_map findings (read (codes "{\"app\":\"1\",\"children\":[{\"kind\":\"stack\",\"id\":\"S\",\"children\":[{\"kind\":\"resource\",\"id\":\"R\",\"type\":\"Own::T\",\"properties\":{\"P\":{\"Fn::Sub\":[\"x\",[]]}}}]}]}"))
+    ≡ Some (at Shape (codes "/children/0/children/0/properties/P/Fn::Sub/1") ∷ [])
+unfolding serde_json_on_literals digits
+variables_of_no_object = refl
+
+import_of_nothing : option_map findings (read (codes "{\"app\":\"1\",\"children\":[{\"kind\":\"stack\",\"id\":\"S\",\"children\":[{\"kind\":\"resource\",\"id\":\"R\",\"type\":\"Own::T\",\"properties\":{\"P\":{\"Fn::ImportValue\":\"\"}}}]}]}"))
+    ≡ Some (at Shape (codes "/children/0/children/0/properties/P/Fn::ImportValue") ∷ [])
+unfolding serde_json_on_literals digits
+import_of_nothing = refl
+
+lazy_of_a_number : option_map findings (read (codes "{\"app\":\"1\",\"children\":[{\"kind\":\"stack\",\"id\":\"S\",\"children\":[{\"kind\":\"resource\",\"id\":\"R\",\"type\":\"Own::T\",\"properties\":{\"P\":{\"CDK::Lazy\":1}}}]}]}"))
+    ≡ Some (at Shape (codes "/children/0/children/0/properties/P/CDK::Lazy") ∷ [])
+unfolding serde_json_on_literals digits
+lazy_of_a_number = refl
+
+map_of_two : option_map findings (read (codes "{\"app\":\"1\",\"children\":[{\"kind\":\"stack\",\"id\":\"S\",\"children\":[{\"kind\":\"resource\",\"id\":\"R\",\"type\":\"Own::T\",\"properties\":{\"P\":{\"Fn::FindInMap\":[\"S/M\",\"x\"]}}}]}]}"))
+    ≡ Some (at Shape (codes "/children/0/children/0/properties/P/Fn::FindInMap") ∷ [])
+unfolding serde_json_on_literals digits
+map_of_two = refl
+
+condition_of_two : option_map findings (read (codes "{\"app\":\"1\",\"children\":[{\"kind\":\"stack\",\"id\":\"S\",\"children\":[{\"kind\":\"resource\",\"id\":\"R\",\"type\":\"Own::T\",\"properties\":{\"P\":{\"Fn::If\":[1,\"x\",null]}}}]}]}"))
+    ≡ Some (at Shape (codes "/children/0/children/0/properties/P/Fn::If/0") ∷ at Shape (codes "/children/0/children/0/properties/P/Fn::If/2") ∷ [])
+unfolding serde_json_on_literals digits
+condition_of_two = refl
+
+attribute : option_map findings (read (codes "{\"app\":\"1\",\"children\":[{\"kind\":\"stack\",\"id\":\"S\",\"children\":[{\"kind\":\"resource\",\"id\":\"R\",\"type\":\"Own::T\",\"properties\":{\"P\":{\"Fn::GetAtt\":[\"S/R\",\"A.b-c\"]}}}]}]}"))
+    ≡ Some (at Shape (codes "/children/0/children/0/properties/P/Fn::GetAtt/1") ∷ [])
+unfolding serde_json_on_literals digits
+attribute = refl
+
+forms_in_a_list_place : option_map findings (read (codes "{\"app\":\"1\",\"children\":[{\"kind\":\"stack\",\"id\":\"S\",\"children\":[{\"kind\":\"resource\",\"id\":\"R\",\"type\":\"Own::T\",\"properties\":{\"P\":{\"Fn::Join\":[\",\",{\"Fn::Split\":[\",\",{\"Ref\":\"x\"}]}]}}}]}]}"))
+    ≡ Some ([])
+unfolding serde_json_on_literals digits
+forms_in_a_list_place = refl
+
+object_in_a_list_place : option_map findings (read (codes "{\"app\":\"1\",\"children\":[{\"kind\":\"stack\",\"id\":\"S\",\"children\":[{\"kind\":\"resource\",\"id\":\"R\",\"type\":\"Own::T\",\"properties\":{\"P\":{\"Fn::Select\":[0,{\"a\":\"b\"}]}}}]}]}"))
+    ≡ Some (at Shape (codes "/children/0/children/0/properties/P/Fn::Select/1") ∷ [])
+unfolding serde_json_on_literals digits
+object_in_a_list_place = refl
+
+equals_of_one : option_map findings (read (codes "{\"app\":\"1\",\"children\":[{\"kind\":\"stack\",\"id\":\"S\",\"children\":[{\"kind\":\"condition\",\"id\":\"C\",\"expression\":{\"Fn::Equals\":[\"x\"]}}]}]}"))
+    ≡ Some (at Shape (codes "/children/0/children/0/expression/Fn::Equals") ∷ [])
+unfolding serde_json_on_literals digits
+equals_of_one = refl
+
+not_of_two : option_map findings (read (codes "{\"app\":\"1\",\"children\":[{\"kind\":\"stack\",\"id\":\"S\",\"children\":[{\"kind\":\"condition\",\"id\":\"C\",\"expression\":{\"Fn::Not\":[{\"Condition\":\"a\"},{\"Condition\":\"b\"}]}}]}]}"))
+    ≡ Some (at Shape (codes "/children/0/children/0/expression/Fn::Not") ∷ [])
+unfolding serde_json_on_literals digits
+not_of_two = refl
+
+or_of_eleven : option_map findings (read (codes "{\"app\":\"1\",\"children\":[{\"kind\":\"stack\",\"id\":\"S\",\"children\":[{\"kind\":\"condition\",\"id\":\"C\",\"expression\":{\"Fn::Or\":[{\"Condition\":\"a\"},{\"Condition\":\"a\"},{\"Condition\":\"a\"},{\"Condition\":\"a\"},{\"Condition\":\"a\"},{\"Condition\":\"a\"},{\"Condition\":\"a\"},{\"Condition\":\"a\"},{\"Condition\":\"a\"},{\"Condition\":\"a\"},{\"Condition\":\"a\"}]}}]}]}"))
+    ≡ Some (at Shape (codes "/children/0/children/0/expression/Fn::Or") ∷ [])
+unfolding serde_json_on_literals digits
+or_of_eleven = refl
+
+or_of_ten : option_map findings (read (codes "{\"app\":\"1\",\"children\":[{\"kind\":\"stack\",\"id\":\"S\",\"children\":[{\"kind\":\"condition\",\"id\":\"C\",\"expression\":{\"Fn::Or\":[{\"Condition\":\"a\"},{\"Condition\":\"a\"},{\"Condition\":\"a\"},{\"Condition\":\"a\"},{\"Condition\":\"a\"},{\"Condition\":\"a\"},{\"Condition\":\"a\"},{\"Condition\":\"a\"},{\"Condition\":\"a\"},{\"Condition\":\"a\"}]}}]}]}"))
+    ≡ Some ([])
+unfolding serde_json_on_literals digits
+or_of_ten = refl
+
+condition_named_by_a_number : option_map findings (read (codes "{\"app\":\"1\",\"children\":[{\"kind\":\"stack\",\"id\":\"S\",\"children\":[{\"kind\":\"condition\",\"id\":\"C\",\"expression\":{\"Condition\":1}}]}]}"))
+    ≡ Some (at Shape (codes "/children/0/children/0/expression/Condition") ∷ [])
+unfolding serde_json_on_literals digits
+condition_named_by_a_number = refl
+
+ref_as_a_condition : option_map findings (read (codes "{\"app\":\"1\",\"children\":[{\"kind\":\"stack\",\"id\":\"S\",\"children\":[{\"kind\":\"condition\",\"id\":\"C\",\"expression\":{\"Ref\":\"x\"}}]}]}"))
+    ≡ Some (at Shape (codes "/children/0/children/0/expression") ∷ [])
+unfolding serde_json_on_literals digits
+ref_as_a_condition = refl
+
+barred_in_a_list : option_map findings (read (codes "{\"app\":\"1\",\"children\":[{\"kind\":\"stack\",\"id\":\"S\",\"children\":[{\"kind\":\"condition\",\"id\":\"C\",\"expression\":{\"Fn::Equals\":[{\"Fn::Join\":[\"\",[\"a\",{\"b\":{\"CDK::Lazy\":\"x\"}}]]},\"x\"]}}]}]}"))
+    ≡ Some (at Shape (codes "/children/0/children/0/expression/Fn::Equals/0/Fn::Join/1/1/b") ∷ [])
+unfolding serde_json_on_literals digits
+barred_in_a_list = refl
+
+pseudo_parameter_in_a_sub_of_a_condition : option_map findings (read (codes "{\"app\":\"1\",\"children\":[{\"kind\":\"stack\",\"id\":\"S\",\"children\":[{\"kind\":\"condition\",\"id\":\"C\",\"expression\":{\"Fn::Equals\":[{\"Fn::Sub\":\"${AWS::Region}${AWS::NoValue}\"},\"x\"]}}]}]}"))
+    ≡ Some (at Shape (codes "/children/0/children/0/expression/Fn::Equals/0/Fn::Sub") ∷ [])
+unfolding serde_json_on_literals digits
+pseudo_parameter_in_a_sub_of_a_condition = refl
+
+list_in_an_operand : option_map findings (read (codes "{\"app\":\"1\",\"children\":[{\"kind\":\"stack\",\"id\":\"S\",\"children\":[{\"kind\":\"condition\",\"id\":\"C\",\"expression\":{\"Fn::Equals\":[\"x\",[\"y\"]]}}]}]}"))
+    ≡ Some (at Shape (codes "/children/0/children/0/expression/Fn::Equals/1") ∷ [])
+unfolding serde_json_on_literals digits
+list_in_an_operand = refl
+
+children_of_a_resource : option_map findings (read (codes "{\"app\":\"1\",\"children\":[{\"kind\":\"stack\",\"id\":\"S\",\"children\":[{\"kind\":\"resource\",\"id\":\"R\",\"type\":\"Own::T\",\"children\":[null]}]}]}"))
+    ≡ Some (at Shape (codes "/children/0/children/0/children") ∷ [])
+unfolding serde_json_on_literals digits
+children_of_a_resource = refl
 
 settings_in_order : setting_findings (record { key = codes "a"; value = codes "${Token[" } ∷ record { key = codes "#{Token["; value = [] } ∷ record { key = codes "b"; value = codes "${Token" } ∷ [])
     ≡ at LiteralMarker (codes "=a") ∷ at LiteralMarker (codes "=#{Token[") ∷ []

@@ -1,6 +1,6 @@
 -- Which application a JSON document is, by the schemas 1 and 2 of our own. It speaks of documents without findings: what
 -- a document may not have, and what the schemas differ in, its findings tell.
-use Rattle.std.specs.Prelude.{ℕ, ◌||◌, List, [], ◌∷◌, Bool, false, codes, if◌then◌else◌, Option, Some, None, option_map, option_and_then}
+use Rattle.std.specs.Prelude.{ℕ, ◌||◌, List, [], ◌∷◌, Bool, false, codes, nat_lt, if◌then◌else◌, Option, Some, None, option_map, option_and_then}
 use Rattle.std.specs.Option.{unwrap_or}
 use Rattle.std.specs.Str.{bytes_eq}
 use Rattle.serde_json.specs.Data.{Data, null, boolean, number, string, array, object, Items, no_items, item, Members, no_members, member, put}
@@ -54,7 +54,7 @@ ref_of s = unwrap_or (option_map expression.pseudo (pseudo_of s)) (expression.re
 
 abbrev pub find_field : List ℕ → Fields → Option Expression
 find_field k expression.no_fields = None
-find_field k (expression.field l e fs) = if bytes_eq l k then Some e else find_field k fs
+find_field k (expression.field l e fs) = if bytes_eq k l then Some e else find_field k fs
 
 -- the pieces of a Sub's text: a name is its expression among the variables, else what `Ref` of it is
 abbrev pub filled : Fields → List Piece → Expressions
@@ -186,10 +186,13 @@ parameter_form_of s =
     else if bytes_eq s (codes "CommaDelimitedList") then Some parameter_forms.List
     else None
 
--- the priority of an aspect entry: 500 where none is given
+-- the priority of an aspect entry, to 1,000,000: 500 where none is given
+abbrev pub to_most : ℕ → ℕ → Option ℕ
+to_most most n = if nat_lt most n then None else Some n
+
 abbrev pub priority_of : Option Data → Option ℕ
 priority_of None = Some 500
-priority_of (Some d) = option_and_then as_u64 (as_number d)
+priority_of (Some d) = option_and_then (to_most 1000000) (option_and_then as_u64 (as_number d))
 
 abbrev pub entry_in : Members → Option AspectEntry
 entry_in ms =

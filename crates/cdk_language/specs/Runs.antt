@@ -16,7 +16,7 @@ no_literal = None ∷ []
 
 abbrev pub variable : List ℕ → List (List ℕ × Literals) → Literals
 variable x [] = no_literal
-variable x (v ∷ vs) = if bytes_eq v.0 x then v.1 else variable x vs
+variable x (v ∷ vs) = if bytes_eq x v.0 then v.1 else variable x vs
 
 abbrev pub piece_literals : List (List ℕ × Literals) → Piece → Literals
 piece_literals vs (literal s) = Some s ∷ []

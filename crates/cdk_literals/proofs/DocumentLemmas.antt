@@ -1,5 +1,5 @@
 -- An object that has members.
-use Rattle.std.proofs.Common.{◌≡◌, List, [], ◌∷◌, length, Option, Some, String, BTreeMap, Global, refl, ap, ◌∙◌}
+use Rattle.std.proofs.Common.{◌≡◌, List, [], ◌∷◌, length, Some, String, BTreeMap, Global, refl, ap, ◌∙◌}
 use Rattle.std.specs.BTreeMap.{btree_map_len}
 use Rattle.serde_json.specs.Data.{object}
 use Rattle.serde_json.specs.View.{view, members_view}

@@ -1,2 +1,6 @@
-pub mod DocumentLemmas
-pub mod FieldLemmas
+mod DocumentLemmas
+pub mod DocumentLaws
+mod Examples
+mod FieldLemmas
+pub mod FormLaws
+pub mod WrittenLaws

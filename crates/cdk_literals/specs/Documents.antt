@@ -28,9 +28,12 @@ optional_member k (Some d) rest = member k d rest
 
 -- ---- the template
 
+abbrev pub path_metadata : LiteralStack → LiteralResource → Data
+path_metadata s r = object (member (codes "aws:cdk:path") (text (path_of s r)) no_members)
+
 abbrev pub template_resource : LiteralStack → LiteralResource → Data
 template_resource s r =
-    object (member (codes "Metadata") (object (member (codes "aws:cdk:path") (text (path_of s r)) no_members))
+    object (member (codes "Metadata") (path_metadata s r)
     (optional_member (codes "Properties") (unless_empty r.properties) (member (codes "Type") (text r.resource_type) no_members)))
 
 abbrev pub template_resources : LiteralStack → Members
@@ -75,7 +78,7 @@ manifest s =
 abbrev pub resource_node : LiteralStack → LiteralResource → Data
 resource_node s r =
     object (member (codes "attributes") (object (member (codes "aws:cdk:cloudformation:props") (object r.properties)
-        (member (codes "aws:cdk:cloudformation:type") (text r.resource_type) no_members)))
+    (member (codes "aws:cdk:cloudformation:type") (text r.resource_type) no_members)))
     (member (codes "id") (text r.id) (member (codes "path") (text (path_of s r)) no_members)))
 
 abbrev pub resource_nodes : LiteralStack → Members
@@ -89,5 +92,5 @@ stack_node s =
 abbrev pub tree_file : LiteralStack → Data
 tree_file s =
     object (member (codes "tree") (object (member (codes "children") (object (member s.id (stack_node s) no_members))
-        (member (codes "id") (text (codes "App")) (member (codes "path") (text []) no_members))))
+    (member (codes "id") (text (codes "App")) (member (codes "path") (text []) no_members))))
     (member (codes "version") (text (codes "tree-0.1")) no_members))

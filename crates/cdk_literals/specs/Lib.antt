@@ -2,3 +2,4 @@ pub mod Documents
 pub mod Form
 pub mod LiteralStack
 pub mod Views
+pub mod Written

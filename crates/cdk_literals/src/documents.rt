@@ -3,7 +3,7 @@ ghost use Rattle.std.specs.Prelude.{◌≡◌, ◌++◌, ◌∷◌, IfOk, map, o
 ghost use Rattle.serde_json.specs.Data.{object};
 ghost use Rattle.serde_json.specs.View.{view, members_view};
 ghost use Rattle.cdk_literals.specs.LiteralStack.{LiteralStack, resource_of as resource_in};
-ghost use Rattle.cdk_literals.specs.Documents.{unless_empty, path_of as path_of_resource, template_resource as template_entry, template_resources as template_entries, template as template_of, logical_id_entry as logical_id_of, metadata as metadata_of, template_file as template_file_of, stack_artifact as artifact_of, tree_artifact as tree_artifact_of, manifest as manifest_of, resource_node as node_of, resource_nodes as nodes_of, stack_node as node_of_stack, tree_file as tree_file_of};
+ghost use Rattle.cdk_literals.specs.Documents.{unless_empty, path_of as path_of_resource, path_metadata as path_metadata_of, template_resource as template_entry, template_resources as template_entries, template as template_of, logical_id_entry as logical_id_of, metadata as metadata_of, template_file as template_file_of, stack_artifact as artifact_of, tree_artifact as tree_artifact_of, manifest as manifest_of, resource_node as node_of, resource_nodes as nodes_of, stack_node as node_of_stack, tree_file as tree_file_of};
 ghost use Rattle.cdk_literals.specs.Views.{resource_view, stack_view, properties_view};
 
 use crate::stack::{Resource, Stack, resource_of};
@@ -46,6 +46,18 @@ fn object_unless_empty(members: Map) -> Option<Value>
     }
 }
 
+// The metadata of a resource in its template: its construct's path.
+fn path_metadata(
+    alloc: Global,
+    stack: &Stack<'_>,
+    resource: &Resource<'_>,
+) -> Result<Value, AllocError>
+    ensures { IfOk result (λ v. view v ≡ path_metadata_of (stack_view stack.now) (resource_view resource.now)) }
+{
+    let path = path_of(alloc, stack, resource)?;
+    json!(in alloc; {"aws:cdk:path": path.as_str()})
+}
+
 fn template_resource(
     alloc: Global,
     stack: &Stack<'_>,
@@ -53,15 +65,15 @@ fn template_resource(
 ) -> Result<Value, AllocError>
     ensures { IfOk result (λ v. view v ≡ template_entry (stack_view stack.now) (resource_view resource.now)) }
 {
-    let path = path_of(alloc, stack, resource)?;
+    let metadata = path_metadata(alloc, stack, resource)?;
     match given_properties(resource) {
         Some(properties) => json!(in alloc; {
-            "Metadata": {"aws:cdk:path": path.as_str()},
+            "Metadata": metadata,
             "Properties": properties,
             "Type": resource.resource_type
         }),
         None => json!(in alloc; {
-            "Metadata": {"aws:cdk:path": path.as_str()},
+            "Metadata": metadata,
             "Type": resource.resource_type
         }),
     }
@@ -159,7 +171,12 @@ pub fn manifest(alloc: Global, stack: &Stack<'_>) -> Result<Value, AllocError>
 {
     let mut artifacts = Map::new(alloc);
     put(&mut artifacts, alloc, "Tree", tree_artifact(alloc)?)?;
-    put(&mut artifacts, alloc, stack.id, stack_artifact(alloc, stack)?)?;
+    put(
+        &mut artifacts,
+        alloc,
+        stack.id,
+        stack_artifact(alloc, stack)?,
+    )?;
     json!(in alloc; {"artifacts": artifacts, "version": "36.0.0"})
 }
 

@@ -14,6 +14,7 @@ use cdk_base::{Map, Value, has_marker};
 use cdk_names::is_logical;
 
 const MOST_RESOURCES: usize = 500;
+
 const MOST_SIZE: u64 = 16_000_000;
 
 // A key that would make an object an intrinsic or a form of the application's.

@@ -24,12 +24,15 @@ Holds files name bytes = IfSome files (λ m. get m name ≡ Some bytes)
 abbrev pub HoldsOver : Contents → List ℕ → ℕ → Type 0
 HoldsOver files name limit = IfSome files (λ m. (bytes : List ℕ) × (get m name ≡ Some bytes) × (limit < length bytes))
 
+-- a file is set
 abbrev pub with_file : List ℕ → List ℕ → Contents → Contents
 with_file name bytes files = option_map (λ m. insert m name bytes) files
 
+-- a file is taken out
 abbrev pub without_file : List ℕ → Contents → Contents
 without_file name files = option_map (λ m. remove m name) files
 
+-- a directory is made
 abbrev pub with_directory : List ℕ → Directories → Directories
 with_directory name directories = option_map (λ s. set.insert s name) directories
 
@@ -37,6 +40,7 @@ with_directory name directories = option_map (λ s. set.insert s name) directori
 abbrev pub LeavesPart : Contents → Contents → List ℕ → List ℕ → Type 0
 LeavesPart old new name bytes = (new ≡ old) ⊎ ((k : ℕ) × (k < length bytes) × (new ≡ with_file name (take k bytes) old))
 
+-- bytes are appended
 abbrev pub with_bytes : List ℕ → Option (List ℕ) → Option (List ℕ)
 with_bytes bytes written = option_map (λ before. before ++ bytes) written
 

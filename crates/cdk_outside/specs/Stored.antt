@@ -1,4 +1,4 @@
--- What files in memory stand for: a store of bytes that only grows, and a log of changes whose names and bytes lie in it.
+-- What files in memory stand for: a store of bytes that only grows, and a log of changes whose names and bytes lie in it (own).
 use Rattle.std.specs.Prelude.{◌≡◌, ℕ, ◌-◌, Bool, true, ◌&&◌, nat_le, if◌then◌else◌, List, [], ◌∷◌, length, take, drop}
 use Rattle.std.specs.Ordering.{nat_cmp}
 use Rattle.std.specs.Cmp.Lexicographic.{slice_cmp}

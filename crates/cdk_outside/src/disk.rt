@@ -1,12 +1,17 @@
-// The files of the disk. They tell neither contents nor names.
-ghost use Rattle.std.specs.Prelude.{◌≤◌, None, IfOk, vec_len};
+// The files of the disk: the trusted edge to the system's files.
+ghost use Rattle.std.specs.Prelude.{◌≡◌, ◌≤◌, ◌+◌, None, IfOk, IsErrOf, vec_len};
+ghost use Rattle.cdk_outside.specs.declared.traits.ReadError.TheVariants.{TooLong};
+ghost use Rattle.cdk_outside.specs.Streams.{AreAll, IsOver, TakesAtMost};
 
 use crate::stream::write_whole;
 use crate::{Failed, Files, ReadError};
 use std::alloc::Global;
-use std::fs::{self};
+use std::fs;
 use std::io::{ErrorKind, Read};
+use std::marker::Model;
 
+/// The files of the disk. It counts failed calls from 0, and tells no contents and no names. An interrupted read or
+/// write is a failure: nothing is tried twice.
 #[derive(Drop)]
 pub struct DiskFiles<R: std::rt::Files + Drop> {
     rt: R,
@@ -14,8 +19,19 @@ pub struct DiskFiles<R: std::rt::Files + Drop> {
     write_faults: u64,
 }
 
+impl<R: std::rt::Files + Drop> Model for DiskFiles<R> {
+    ghost use Rattle.cdk_outside.specs.DiskCounts.{DiskCounts};
+
+    ghost Value = { DiskCounts };
+
+    ghost view = { λ d. record { read_faults = d.read_faults; write_faults = d.write_faults } };
+}
+
 impl<R: std::rt::Files + Drop> DiskFiles<R> {
-    pub fn new(rt: R) -> Self {
+    /// Takes the runtime, through which std reaches the disk.
+    pub fn new(rt: R) -> Self
+        ensures { result ≡ record { read_faults = 0; write_faults = 0 } }
+    {
         DiskFiles {
             rt,
             read_faults: 0,
@@ -26,9 +42,16 @@ impl<R: std::rt::Files + Drop> DiskFiles<R> {
 
 const PIECE: usize = 4096;
 
-// Reads to the end, or to one byte past the limit.
-fn read_up_to<R: Read>(alloc: Global, file: &mut R, limit: usize) -> Result<Vec<u8>, ReadError>
-    ensures { IfOk result (λ v. vec_len v ≤ limit) }
+// Reads to the end, or to one byte past the limit. A read that gives nothing is the end.
+pub(crate) fn read_up_to<R: Read>(
+    alloc: Global,
+    file: &mut R,
+    limit: usize,
+) -> Result<Vec<u8>, ReadError>
+    ensures short { IfOk result (λ v. vec_len v ≤ limit) }
+    ensures all { IfOk result (λ v. AreAll (R.remaining file.old) v.items) }
+    ensures too_long { IsErrOf result TooLong → IsOver (R.remaining file.old) limit }
+    ensures takes { TakesAtMost (limit + 1) (R.remaining file.old) (R.remaining file.new) }
 {
     let mut all = Vec::new(alloc);
     let mut piece = [0u8; PIECE];
@@ -47,6 +70,7 @@ fn read_up_to<R: Read>(alloc: Global, file: &mut R, limit: usize) -> Result<Vec<
     }
 }
 
+// The bytes of a file of at most the limit's bytes.
 fn read_file<R: std::rt::Files>(
     rt: &R,
     alloc: Global,
@@ -61,6 +85,7 @@ fn read_file<R: std::rt::Files>(
     read_up_to(alloc, &mut file, limit)
 }
 
+// Makes the file, or empties the one that is there, and writes all the bytes.
 fn write_file<R: std::rt::Files>(rt: &R, name: &str, bytes: &[u8]) -> Result<(), Failed> {
     let Ok(mut file) = fs::create(rt, name) else {
         return Err(Failed);
@@ -68,6 +93,7 @@ fn write_file<R: std::rt::Files>(rt: &R, name: &str, bytes: &[u8]) -> Result<(),
     write_whole(&mut file, bytes)
 }
 
+// Makes one directory, or finds it there.
 fn make_directory<R: std::rt::Files>(rt: &R, name: &str) -> Result<(), Failed> {
     if fs::create_dir(rt, name).is_ok() {
         return Ok(());
@@ -78,6 +104,7 @@ fn make_directory<R: std::rt::Files>(rt: &R, name: &str) -> Result<(), Failed> {
     }
 }
 
+// Takes a file out, or finds it absent.
 fn remove_file<R: std::rt::Files>(rt: &R, name: &str) -> Result<(), Failed> {
     match fs::remove_file(rt, name) {
         Ok(()) => Ok(()),

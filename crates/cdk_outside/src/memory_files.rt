@@ -1,16 +1,24 @@
 // Files in memory, whose room is taken when they are made. A list says which calls are to fail.
-ghost use Rattle.std.specs.Prelude.{◌≡◌, ◌≤◌, ◌<◌, ◌+◌, ◌*◌, true, false, length, vec_len, vec_capacity, Some, None, IfOk, OnOk, OnErr};
+ghost use Rattle.std.specs.Prelude.{◌≡◌, ◌≤◌, ◌+◌, ◌&&◌, nat_lt, nat_le, Some, IfSome, vec_len, IfOk, OnOk, OnErr, IsErrOf, is_ok, length};
 ghost use Rattle.std.specs.Option.{option_copied};
 ghost use Rattle.std.specs.FinMap as map;
 ghost use Rattle.std.specs.FinSet as set;
-ghost use Rattle.cdk_outside.specs.Stored.{files_of, log_lies_in, directories_of, names_lie_in};
+ghost use Rattle.cdk_outside.specs.declared.traits.ReadError.TheVariants.{TooLong};
+ghost use Rattle.cdk_outside.specs.Calls.{next_count, is_listed};
+ghost use Rattle.cdk_outside.specs.Outside.{Holds, HoldsOver, with_file, without_file, with_directory, LeavesPart, CallNoted, ReadNoted};
+ghost use Rattle.cdk_outside.specs.FilesState.{new_state, with_added, IsAnswer, read_answer, after_read, put_succeeds, after_put, make_dir_succeeds, after_make_dir, remove_succeeds, after_remove};
 
 use crate::memory_sink::has_call;
 use crate::stored::{Change, Part, add_directory, find, has_directory, remove_file, set_file};
 use crate::{Failed, Files, ReadError};
 use cdk_base::{List, Text};
 use std::alloc::{AllocError, Global};
+use std::marker::Model;
 
+/// Files and directories in memory, for tests. They tell what they hold, and all that they fail on is known:
+/// calls of the methods of `Files` on one object are numbered from 1, all methods together (all calls past the greatest
+/// u64 have that number), and a list gives the numbers of the calls that fail. The room for what they will hold is
+/// taken when they are made, so no call but `read` and `add` wants memory.
 #[derive(Drop)]
 pub struct MemFiles {
     alloc: Global,
@@ -18,7 +26,7 @@ pub struct MemFiles {
     log: Vec<Change>,
     directory_store: Vec<u8>,
     directories: Vec<Part>,
-    left: usize,
+    entries: usize,
     room: usize,
     listed: List<u64>,
     calls: u64,
@@ -26,29 +34,58 @@ pub struct MemFiles {
     write_faults: u64,
     failed_read: Option<Text>,
     failed_write: Option<Text>,
-    ghost lies: { log_lies_in (length store.items) log.items ≡ true },
-    ghost directories_lie: { names_lie_in (length directory_store.items) directories.items ≡ true },
-    ghost store_fits: { vec_len store + room ≤ vec_capacity store },
-    ghost log_fits: { vec_len log + 2 * left + map.len (files_of store.items log.items) ≤ vec_capacity log },
-    ghost directory_store_fits: { vec_len directory_store + room ≤ vec_capacity directory_store },
-    ghost directories_fit: { vec_len directories + left ≤ vec_capacity directories },
 }
 
-// The next call is to fail.
-fn next_fails(calls: &mut u64, listed: &List<u64>) -> bool {
+impl Model for MemFiles {
+    ghost use Rattle.cdk_outside.specs.FilesState.{FilesView, view_code};
+
+    ghost Value = { FilesView };
+
+    ghost coded = { view_code };
+
+    ghost use Rattle.cdk_outside.specs.Kept.{view_of, IsKept};
+
+    ghost view = { view_of };
+
+    ghost invariant = { IsKept };
+}
+
+// Counts a call, and says whether it is to fail.
+fn count_call(calls: &mut u64, listed: &List<u64>) -> bool
+    ensures calls { calls.new ≡ next_count calls.old }
+    ensures listed { result ≡ is_listed listed.now (next_count calls.old) }
+{
     *calls = calls.saturating_add(1);
     has_call(listed.as_slice(), *calls)
 }
 
+// Counts a failed call, and keeps its name where memory for it is found.
+fn count_fault(faults: &mut u64, failed: &mut Option<Text>, alloc: Global, name: &str)
+    ensures faults { faults.new ≡ next_count faults.old }
+    ensures failed { IfSome failed.new (λ n. n ≡ name.now) }
+{
+    *faults = faults.saturating_add(1);
+    *failed = Text::new(alloc, name).ok();
+}
+
+// An entry is left, and the bytes of a file's name and contents are.
+fn has_room(entries: usize, room: usize, name: &str, bytes: &[u8]) -> bool
+    ensures { result ≡ (nat_lt 0 entries && nat_le (length name.now + length bytes.now) room) }
+{
+    entries > 0 && name.len() <= room && bytes.len() <= room - name.len()
+}
+
 impl MemFiles {
-    /// No files, and room for so many entries and bytes.
+    /// No files and no directories, with room for so many entries and bytes. Each `put` and `make_dir` that is Ok uses
+    /// one entry and the bytes of its name and contents, and none come back. `fail` has the numbers of the calls that
+    /// fail.
     pub fn new(
         alloc: Global,
         fail: List<u64>,
         entries: usize,
         room: usize,
     ) -> Result<MemFiles, AllocError>
-        ensures { IfOk result (λ m. files_of m.store.items m.log.items ≡ map.empty) }
+        ensures { IfOk result (λ m. m.state ≡ new_state fail entries room) }
     {
         if entries > usize::MAX / 2 {
             return Err(AllocError);
@@ -59,7 +96,7 @@ impl MemFiles {
             log: Vec::with_capacity(alloc, 2 * entries)?,
             directory_store: Vec::with_capacity(alloc, room)?,
             directories: Vec::with_capacity(alloc, entries)?,
-            left: entries,
+            entries,
             room,
             listed: fail,
             calls: 0,
@@ -70,10 +107,13 @@ impl MemFiles {
         })
     }
 
-    /// Sets a file, and leaves the entries and bytes left as they are.
+    /// Sets a file, and leaves the entries and bytes left as they are. This is no numbered call. After an error nothing
+    /// is changed.
     pub fn add(&mut self, name: &str, bytes: &[u8]) -> Result<(), AllocError>
-        ensures ok { OnOk result (files_of self.new.store.items self.new.log.items ≡ map.insert (files_of self.old.store.items self.old.log.items) name.now bytes.now) }
-        ensures err { OnErr result (files_of self.new.store.items self.new.log.items ≡ files_of self.old.store.items self.old.log.items) }
+        ensures ok { OnOk result (self.new.state ≡ with_added name.now bytes.now self.old.state) }
+        ensures err { OnErr result (self.new.state ≡ self.old.state) }
+        ensures failed_read { self.new.failed_read ≡ self.old.failed_read }
+        ensures failed_write { self.new.failed_write ≡ self.old.failed_write }
     {
         let Some(more) = name.len().checked_add(bytes.len()) else {
             return Err(AllocError);
@@ -84,7 +124,7 @@ impl MemFiles {
         let Some(changes) = self.log.as_slice().len().checked_add(2) else {
             return Err(AllocError);
         };
-        let Some(twice) = self.left.checked_mul(2) else {
+        let Some(twice) = self.entries.checked_mul(2) else {
             return Err(AllocError);
         };
         let Some(all) = changes.checked_add(twice) else {
@@ -96,14 +136,16 @@ impl MemFiles {
         Ok(())
     }
 
+    /// The bytes of a file, `None` exactly where it is absent. This is no numbered call.
     pub fn get(&self, name: &str) -> Option<&[u8]>
-        ensures { option_copied result ≡ map.get (files_of self.now.store.items self.now.log.items) name.now }
+        ensures { option_copied result ≡ map.get self.now.state.files name.now }
     {
         find(self.store.as_slice(), self.log.as_slice(), name)
     }
 
+    /// Whether the directories have the name. This is no numbered call.
     pub fn has_dir(&self, name: &str) -> bool
-        ensures { result ≡ set.contains (directories_of self.now.directory_store.items self.now.directories.items) name.now }
+        ensures { result ≡ set.contains self.now.state.directories name.now }
     {
         has_directory(
             self.directory_store.as_slice(),
@@ -114,20 +156,35 @@ impl MemFiles {
 }
 
 impl Files for MemFiles {
-    ghost files = { λ m. Some (files_of m.store.items m.log.items) };
+    ghost files = { λ m. Some m.state.files };
 
-    ghost directories = { λ m. Some (directories_of m.directory_store.items m.directories.items) };
+    ghost directories = { λ m. Some m.state.directories };
 
-    ghost read_faults = { λ m. m.read_faults };
+    ghost read_faults = { λ m. m.state.read_faults };
 
-    ghost write_faults = { λ m. m.write_faults };
+    ghost write_faults = { λ m. m.state.write_faults };
 
     ghost failed_read = { λ m. m.failed_read };
 
     ghost failed_write = { λ m. m.failed_write };
 
-    fn read(&mut self, alloc: Global, name: &str, limit: usize) -> Result<Vec<u8>, ReadError> {
-        let listed = next_fails(&mut self.calls, &self.listed);
+    /// Fails exactly where it is listed or the file is absent.
+    fn read(&mut self, alloc: Global, name: &str, limit: usize) -> Result<Vec<u8>, ReadError>
+        ensures bytes { IfOk result (λ v. Holds (Some self.old.state.files) name.now v.items) }
+        ensures short { IfOk result (λ v. vec_len v ≤ limit) }
+        ensures too_long { IsErrOf result TooLong → HoldsOver (Some self.old.state.files) name.now
+            limit }
+        ensures never_falls { self.old.state.read_faults ≤ self.new.state.read_faults }
+        ensures noted { ReadNoted result self.old.state.read_faults self.new.state.read_faults
+            self.old.failed_read self.new.failed_read name.now }
+        ensures files { Some self.new.state.files ≡ Some self.old.state.files }
+        ensures directories { Some self.new.state.directories ≡ Some self.old.state.directories }
+        ensures write_faults { self.new.state.write_faults ≡ self.old.state.write_faults }
+        ensures failed_write { self.new.failed_write ≡ self.old.failed_write }
+        ensures answer { IsAnswer (λ v. v.items) result (read_answer self.old.state name.now limit) }
+        ensures after { self.new.state ≡ after_read self.old.state name.now }
+    {
+        let listed = count_call(&mut self.calls, &self.listed);
         match find(self.store.as_slice(), self.log.as_slice(), name) {
             Some(bytes) if !listed => {
                 if bytes.len() > limit {
@@ -137,49 +194,118 @@ impl Files for MemFiles {
                 }
             }
             _ => {
-                self.read_faults = self.read_faults.saturating_add(1);
-                self.failed_read = Text::new(self.alloc, name).ok();
+                count_fault(
+                    &mut self.read_faults,
+                    &mut self.failed_read,
+                    self.alloc,
+                    name,
+                );
                 Err(ReadError::Failed)
             }
         }
     }
 
-    fn put(&mut self, name: &str, bytes: &[u8]) -> Result<(), Failed> {
-        let listed = next_fails(&mut self.calls, &self.listed);
-        let fits = self.left > 0
-            && name.len() <= self.room
-            && bytes.len() <= self.room - name.len();
-        if fits && !(listed && bytes.is_empty()) {
-            let taken = if listed { bytes.len() / 2 } else { bytes.len() };
-            set_file(&mut self.store, &mut self.log, name, &bytes[..taken]);
-            self.left -= 1;
-            self.room -= name.len() + taken;
+    /// Fails exactly where it is listed or too few entries or bytes are left. Where too few are left for all that is
+    /// asked, listed or not, the file stays as before. Else a listed call leaves the first half of the bytes, rounded
+    /// down, and uses an entry and the bytes of the name and of that half; with no bytes it leaves the file as before.
+    fn put(&mut self, name: &str, bytes: &[u8]) -> Result<(), Failed>
+        ensures ok { OnOk result (Some self.new.state.files ≡ with_file name.now bytes.now
+            (Some self.old.state.files)) }
+        ensures err { OnErr result (LeavesPart (Some self.old.state.files)
+            (Some self.new.state.files) name.now bytes.now) }
+        ensures never_falls { self.old.state.write_faults ≤ self.new.state.write_faults }
+        ensures noted { CallNoted result self.old.state.write_faults self.new.state.write_faults
+            self.old.failed_write self.new.failed_write name.now }
+        ensures directories { Some self.new.state.directories ≡ Some self.old.state.directories }
+        ensures read_faults { self.new.state.read_faults ≡ self.old.state.read_faults }
+        ensures failed_read { self.new.failed_read ≡ self.old.failed_read }
+        ensures exact { is_ok result ≡ put_succeeds self.old.state name.now bytes.now }
+        ensures after { self.new.state ≡ after_put self.old.state name.now bytes.now }
+    {
+        let listed = count_call(&mut self.calls, &self.listed);
+        if !has_room(self.entries, self.room, name, bytes) {
+            count_fault(
+                &mut self.write_faults,
+                &mut self.failed_write,
+                self.alloc,
+                name,
+            );
+            return Err(Failed);
         }
-        if fits && !listed {
+        if !listed {
+            set_file(&mut self.store, &mut self.log, name, bytes);
+            self.entries -= 1;
+            self.room -= name.len() + bytes.len();
             return Ok(());
         }
-        self.write_faults = self.write_faults.saturating_add(1);
-        self.failed_write = Text::new(self.alloc, name).ok();
+        count_fault(
+            &mut self.write_faults,
+            &mut self.failed_write,
+            self.alloc,
+            name,
+        );
+        if bytes.is_empty() {
+            return Err(Failed);
+        }
+        let half = &bytes[..bytes.len() / 2];
+        set_file(&mut self.store, &mut self.log, name, half);
+        self.entries -= 1;
+        self.room -= name.len() + half.len();
         Err(Failed)
     }
 
-    fn make_dir(&mut self, name: &str) -> Result<(), Failed> {
-        let listed = next_fails(&mut self.calls, &self.listed);
-        if !listed && self.left > 0 && name.len() <= self.room {
+    /// Fails exactly where it is listed or too few entries or bytes are left.
+    fn make_dir(&mut self, name: &str) -> Result<(), Failed>
+        ensures ok { OnOk result (Some self.new.state.directories ≡ with_directory name.now
+            (Some self.old.state.directories)) }
+        ensures err { OnErr result (Some self.new.state.directories ≡ Some
+            self.old.state.directories) }
+        ensures never_falls { self.old.state.write_faults ≤ self.new.state.write_faults }
+        ensures noted { CallNoted result self.old.state.write_faults self.new.state.write_faults
+            self.old.failed_write self.new.failed_write name.now }
+        ensures files { Some self.new.state.files ≡ Some self.old.state.files }
+        ensures read_faults { self.new.state.read_faults ≡ self.old.state.read_faults }
+        ensures failed_read { self.new.failed_read ≡ self.old.failed_read }
+        ensures exact { is_ok result ≡ make_dir_succeeds self.old.state name.now }
+        ensures after { self.new.state ≡ after_make_dir self.old.state name.now }
+    {
+        let listed = count_call(&mut self.calls, &self.listed);
+        if !listed && self.entries > 0 && name.len() <= self.room {
             add_directory(&mut self.directory_store, &mut self.directories, name);
-            self.left -= 1;
+            self.entries -= 1;
             self.room -= name.len();
             return Ok(());
         }
-        self.write_faults = self.write_faults.saturating_add(1);
-        self.failed_write = Text::new(self.alloc, name).ok();
+        count_fault(
+            &mut self.write_faults,
+            &mut self.failed_write,
+            self.alloc,
+            name,
+        );
         Err(Failed)
     }
 
-    fn remove(&mut self, name: &str) -> Result<(), Failed> {
-        if next_fails(&mut self.calls, &self.listed) {
-            self.write_faults = self.write_faults.saturating_add(1);
-            self.failed_write = Text::new(self.alloc, name).ok();
+    /// Fails exactly where it is listed.
+    fn remove(&mut self, name: &str) -> Result<(), Failed>
+        ensures ok { OnOk result (Some self.new.state.files ≡ without_file name.now
+            (Some self.old.state.files)) }
+        ensures err { OnErr result (Some self.new.state.files ≡ Some self.old.state.files) }
+        ensures never_falls { self.old.state.write_faults ≤ self.new.state.write_faults }
+        ensures noted { CallNoted result self.old.state.write_faults self.new.state.write_faults
+            self.old.failed_write self.new.failed_write name.now }
+        ensures directories { Some self.new.state.directories ≡ Some self.old.state.directories }
+        ensures read_faults { self.new.state.read_faults ≡ self.old.state.read_faults }
+        ensures failed_read { self.new.failed_read ≡ self.old.failed_read }
+        ensures exact { is_ok result ≡ remove_succeeds self.old.state }
+        ensures after { self.new.state ≡ after_remove self.old.state name.now }
+    {
+        if count_call(&mut self.calls, &self.listed) {
+            count_fault(
+                &mut self.write_faults,
+                &mut self.failed_write,
+                self.alloc,
+                name,
+            );
             return Err(Failed);
         }
         remove_file(self.store.as_slice(), &mut self.log, name);

@@ -41,15 +41,18 @@ fn append(store: &mut Vec<u8>, bytes: &[u8]) -> Part
 
 // Sets a file, where there is room.
 pub(crate) fn set_file(store: &mut Vec<u8>, log: &mut Vec<Change>, name: &str, bytes: &[u8])
-    requires store { vec_len store.old + length name.now + length bytes.now ≤ vec_capacity store.old }
+    requires store { vec_len store.old + length name.now + length bytes.now ≤ vec_capacity
+        store.old }
     requires log { vec_len log.old < vec_capacity log.old }
     requires lies { log_lies_in (length store.old.items) log.old.items ≡ true }
-    ensures files { files_of store.new.items log.new.items ≡ map.insert (files_of store.old.items log.old.items) name.now bytes.now }
+    ensures files { files_of store.new.items log.new.items ≡ map.insert
+        (files_of store.old.items log.old.items) name.now bytes.now }
     ensures lies { log_lies_in (length store.new.items) log.new.items ≡ true }
     ensures items { store.new.items ≡ store.old.items ++ (name.now ++ bytes.now) }
     ensures len { vec_len store.new ≡ vec_len store.old + length name.now + length bytes.now }
     ensures log_len { vec_len log.new ≡ vec_len log.old + 1 }
-    ensures live { map.len (files_of store.new.items log.new.items) ≤ map.len (files_of store.old.items log.old.items) + 1 }
+    ensures live { map.len (files_of store.new.items log.new.items) ≤ map.len
+        (files_of store.old.items log.old.items) + 1 }
     ensures capacity { vec_capacity store.old ≤ vec_capacity store.new }
     ensures log_capacity { vec_capacity log.old ≤ vec_capacity log.new }
 {
@@ -68,7 +71,8 @@ pub(crate) fn set_file(store: &mut Vec<u8>, log: &mut Vec<Change>, name: &str, b
 // The change that gives a file, after one more change.
 fn updated(store: &[u8], change: &Change, name: &[u8], found: Option<Change>) -> Option<Change>
     requires { lies_in (length store.now) change.now.name ≡ true }
-    ensures { result ≡ (if bytes_eq name.now (part_of store.now change.now.name) then (if change.now.is_removal then None else Some change.now) else found) }
+    ensures { result ≡ (if bytes_eq name.now (part_of store.now change.now.name) then
+        (if change.now.is_removal then None else Some change.now) else found) }
 {
     let part = change.name;
     if name == &store[part.from..part.to] {
@@ -85,7 +89,8 @@ fn updated(store: &[u8], change: &Change, name: &[u8], found: Option<Change>) ->
 // The change that gives a file, if it is there.
 fn find_change(store: &[u8], log: &[Change], name: &str) -> Option<Change>
     requires { log_lies_in (length store.now) log.now ≡ true }
-    ensures bytes { option_map (λ c. part_of store.now c.bytes) result ≡ map.get (files_of store.now log.now) name.now }
+    ensures bytes { option_map (λ c. part_of store.now c.bytes) result ≡ map.get
+        (files_of store.now log.now) name.now }
     ensures fits { IfSome result (λ c. GivesName store.now name.now c) }
 {
     let mut found: Option<Change> = None;
@@ -109,10 +114,13 @@ pub(crate) fn find<'a>(store: &'a [u8], log: &[Change], name: &str) -> Option<&'
 // Takes a file out, if it is there.
 pub(crate) fn remove_file(store: &[u8], log: &mut Vec<Change>, name: &str)
     requires lies { log_lies_in (length store.now) log.old.items ≡ true }
-    requires room { is_some (map.get (files_of store.now log.old.items) name.now) ≡ true → vec_len log.old < vec_capacity log.old }
-    ensures files { files_of store.now log.new.items ≡ map.remove (files_of store.now log.old.items) name.now }
+    requires room { vec_len log.old + map.len (files_of store.now log.old.items) ≤ vec_capacity
+        log.old }
+    ensures files { files_of store.now log.new.items ≡ map.remove
+        (files_of store.now log.old.items) name.now }
     ensures lies { log_lies_in (length store.now) log.new.items ≡ true }
-    ensures room { vec_len log.new + map.len (files_of store.now log.new.items) ≤ vec_len log.old + map.len (files_of store.now log.old.items) }
+    ensures room { vec_len log.new + map.len (files_of store.now log.new.items) ≤ vec_len log.old +
+        map.len (files_of store.now log.old.items) }
     ensures capacity { vec_capacity log.old ≤ vec_capacity log.new }
 {
     match find_change(store, log.as_slice(), name) {
@@ -133,7 +141,8 @@ pub(crate) fn add_directory(store: &mut Vec<u8>, names: &mut Vec<Part>, name: &s
     requires store { vec_len store.old + length name.now ≤ vec_capacity store.old }
     requires names { vec_len names.old < vec_capacity names.old }
     requires lies { names_lie_in (length store.old.items) names.old.items ≡ true }
-    ensures directories { directories_of store.new.items names.new.items ≡ set.insert (directories_of store.old.items names.old.items) name.now }
+    ensures directories { directories_of store.new.items names.new.items ≡ set.insert
+        (directories_of store.old.items names.old.items) name.now }
     ensures lies { names_lie_in (length store.new.items) names.new.items ≡ true }
     ensures len { vec_len store.new ≡ vec_len store.old + length name.now }
     ensures names_len { vec_len names.new ≡ vec_len names.old + 1 }

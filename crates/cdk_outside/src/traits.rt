@@ -60,7 +60,8 @@ pub trait Files {
         ensures short { IfOk result (λ v. vec_len v ≤ limit) }
         ensures too_long { IsErrOf result TooLong → HoldsOver (files self.old) name.now limit }
         ensures never_falls { read_faults self.old ≤ read_faults self.new }
-        ensures noted { ReadNoted result (read_faults self.old) (read_faults self.new) (failed_read self.old) (failed_read self.new) name.now }
+        ensures noted { ReadNoted result (read_faults self.old) (read_faults self.new)
+            (failed_read self.old) (failed_read self.new) name.now }
         ensures files { files self.new ≡ files self.old }
         ensures directories { directories self.new ≡ directories self.old }
         ensures write_faults { write_faults self.new ≡ write_faults self.old }
@@ -70,19 +71,23 @@ pub trait Files {
     /// the first, and leaves all other files.
     fn put(&mut self, name: &str, bytes: &[u8]) -> Result<(), Failed>
         ensures ok { OnOk result (files self.new ≡ with_file name.now bytes.now (files self.old)) }
-        ensures err { OnErr result (LeavesPart (files self.old) (files self.new) name.now bytes.now) }
+        ensures err { OnErr result (LeavesPart (files self.old) (files self.new) name.now
+            bytes.now) }
         ensures never_falls { write_faults self.old ≤ write_faults self.new }
-        ensures noted { CallNoted result (write_faults self.old) (write_faults self.new) (failed_write self.old) (failed_write self.new) name.now }
+        ensures noted { CallNoted result (write_faults self.old) (write_faults self.new)
+            (failed_write self.old) (failed_write self.new) name.now }
         ensures directories { directories self.new ≡ directories self.old }
         ensures read_faults { read_faults self.new ≡ read_faults self.old }
         ensures failed_read { failed_read self.new ≡ failed_read self.old };
 
     /// Makes one directory, or leaves the one that is there. A failed call adds nothing.
     fn make_dir(&mut self, name: &str) -> Result<(), Failed>
-        ensures ok { OnOk result (directories self.new ≡ with_directory name.now (directories self.old)) }
+        ensures ok { OnOk result (directories self.new ≡ with_directory name.now
+            (directories self.old)) }
         ensures err { OnErr result (directories self.new ≡ directories self.old) }
         ensures never_falls { write_faults self.old ≤ write_faults self.new }
-        ensures noted { CallNoted result (write_faults self.old) (write_faults self.new) (failed_write self.old) (failed_write self.new) name.now }
+        ensures noted { CallNoted result (write_faults self.old) (write_faults self.new)
+            (failed_write self.old) (failed_write self.new) name.now }
         ensures files { files self.new ≡ files self.old }
         ensures read_faults { read_faults self.new ≡ read_faults self.old }
         ensures failed_read { failed_read self.new ≡ failed_read self.old };
@@ -92,7 +97,8 @@ pub trait Files {
         ensures ok { OnOk result (files self.new ≡ without_file name.now (files self.old)) }
         ensures err { OnErr result (files self.new ≡ files self.old) }
         ensures never_falls { write_faults self.old ≤ write_faults self.new }
-        ensures noted { CallNoted result (write_faults self.old) (write_faults self.new) (failed_write self.old) (failed_write self.new) name.now }
+        ensures noted { CallNoted result (write_faults self.old) (write_faults self.new)
+            (failed_write self.old) (failed_write self.new) name.now }
         ensures directories { directories self.new ≡ directories self.old }
         ensures read_faults { read_faults self.new ≡ read_faults self.old }
         ensures failed_read { failed_read self.new ≡ failed_read self.old };

@@ -1,7 +1,7 @@
-use Rattle.std.proofs.Common.{◌≡◌, ◌∷◌, map, drop}
+use Rattle.std.proofs.Common.{◌≡◌, map, drop}
 use Rattle.serde_json.specs.View.{view, members_view}
 use Rattle.cdk_literals.specs.LiteralStack.{resource_of}
-use Rattle.cdk_literals.specs.Documents.{metadata, logical_id_entry, path_of, resource_nodes, resource_node, with_members}
+use Rattle.cdk_literals.specs.Documents.{resource_nodes, resource_node, with_members}
 use Rattle.cdk_literals.specs.Views.{stack_view}
 use Rattle.cdk_literals.proofs.documents.resource_nodes.Given as goal
 

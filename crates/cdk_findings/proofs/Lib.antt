@@ -1,0 +1,5 @@
+pub mod Escaped
+pub mod Firsts
+pub mod Numerals
+pub mod Opening
+pub mod SubRuns

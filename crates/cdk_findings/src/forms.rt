@@ -1,0 +1,87 @@
+// Which objects are forms of expressions and conditions.
+ghost use Rattle.std.specs.Prelude.{◌≡◌, option_map};
+ghost use Rattle.serde_json.specs.Find.{as_str};
+ghost use Rattle.serde_json.specs.View.{view, members_view};
+ghost use Rattle.cdk_language.specs.Schema.{is_form_name as spec_is_form_name, is_no_value as spec_is_no_value, is_barred as spec_is_barred, is_form as spec_is_form, is_condition_name as spec_is_condition_name, is_condition_form as spec_is_condition_form};
+
+use cdk_base::{Map, Value};
+use cdk_language::Within;
+
+fn is_form_name(key: &str) -> bool
+    ensures { result ≡ spec_is_form_name key.now }
+{
+    key == "Ref"
+        || key == "Fn::GetAtt"
+        || key == "Fn::Join"
+        || key == "Fn::Select"
+        || key == "Fn::Split"
+        || key == "Fn::If"
+        || key == "Fn::FindInMap"
+        || key == "Fn::ImportValue"
+        || key == "Fn::Sub"
+        || key == "CDK::Concat"
+        || key == "CDK::Context"
+        || key == "CDK::Lazy"
+}
+
+fn is_no_value(value: &Value) -> bool
+    ensures { result ≡ spec_is_no_value (as_str (view value.now)) }
+{
+    match value {
+        Value::String(text) => text.as_str() == "AWS::NoValue",
+        _ => false,
+    }
+}
+
+fn is_barred(within: Within, key: &str, value: &Value) -> bool
+    ensures { result ≡ spec_is_barred within key.now (view value.now) }
+{
+    match within {
+        Within::Construct => false,
+        Within::Condition => {
+            key == "Fn::GetAtt"
+                || key == "Fn::If"
+                || key == "Fn::ImportValue"
+                || key == "CDK::Lazy"
+                || (key == "Ref" && is_no_value(value))
+        }
+    }
+}
+
+/// Whether the object is a form of an expression that may stand here.
+pub fn is_form(within: Within, members: &Map) -> bool
+    ensures { result ≡ spec_is_form within (members_view members.now.entries) }
+{
+    let mut entries = members.iter();
+    let Some((key, member)) = entries.next() else {
+        return false;
+    };
+    if entries.next().is_some() {
+        return false;
+    }
+    is_form_name(key.as_str()) && !is_barred(within, key.as_str(), member)
+}
+
+fn is_condition_name(key: &str) -> bool
+    ensures { result ≡ spec_is_condition_name key.now }
+{
+    key == "Fn::Equals"
+        || key == "Fn::And"
+        || key == "Fn::Or"
+        || key == "Fn::Not"
+        || key == "Condition"
+}
+
+/// Whether the object is a form of a condition.
+pub fn is_condition_form(members: &Map) -> bool
+    ensures { result ≡ spec_is_condition_form (members_view members.now.entries) }
+{
+    let mut entries = members.iter();
+    let Some((key, _member)) = entries.next() else {
+        return false;
+    };
+    if entries.next().is_some() {
+        return false;
+    }
+    is_condition_name(key.as_str())
+}

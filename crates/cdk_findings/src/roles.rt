@@ -1,0 +1,434 @@
+// The schema's table in code: which role each member and item has.
+ghost use Rattle.std.specs.Prelude.{◌≡◌, codes, if◌then◌else◌};
+ghost use Rattle.serde_json.specs.View.{members_view};
+ghost use Rattle.cdk_base.specs.Json.{is_form_key as spec_is_form_key};
+ghost use Rattle.cdk_language.specs.declared.schema.KindName.TheVariants as kinds;
+ghost use Rattle.cdk_language.specs.declared.schema.Role.TheVariants as roles;
+ghost use Rattle.cdk_language.specs.declared.schema.Schema.TheVariants as schemas;
+ghost use Rattle.cdk_language.specs.Application.{text_at as spec_text_at};
+ghost use Rattle.cdk_language.specs.Schema.{kind_named as spec_kind_named, kind_in as spec_kind_in, needed_member as spec_needed_member, schema_named as spec_schema_named, frame_of as spec_frame_of, document_member as spec_document_member, in_schema_2 as spec_in_schema_2, element_member as spec_element_member, kind_member as spec_kind_member, construct_member as spec_construct_member, entry_member as spec_entry_member, form_member as spec_form_member, condition_member as spec_condition_member, member_role as spec_member_role, first_else as spec_first_else, item_role as spec_item_role};
+
+use crate::members::{has_form_key, is_form_key, text_at};
+use cdk_base::Map;
+use cdk_language::{Frame, KindName, Role, Schema, Within, is_variable_name};
+
+fn kind_named(name: &str) -> Option<KindName>
+    ensures { result ≡ spec_kind_named name.now }
+{
+    if name == "stage" {
+        Some(KindName::Stage)
+    } else if name == "stack" {
+        Some(KindName::Stack)
+    } else if name == "group" {
+        Some(KindName::Group)
+    } else if name == "resource" {
+        Some(KindName::Resource)
+    } else if name == "parameter" {
+        Some(KindName::Parameter)
+    } else if name == "condition" {
+        Some(KindName::Condition)
+    } else if name == "mapping" {
+        Some(KindName::Mapping)
+    } else if name == "output" {
+        Some(KindName::Output)
+    } else if name == "lazy" {
+        Some(KindName::Lazy)
+    } else {
+        None
+    }
+}
+
+/// The kind that a construct's `kind` names.
+pub fn kind_in(members: &Map) -> Option<KindName>
+    ensures { result ≡ spec_kind_in (members_view members.now.entries) }
+{
+    match text_at(members, "kind") {
+        Some(name) => kind_named(name),
+        None => None,
+    }
+}
+
+/// The member that a construct of the kind needs, beside `kind` and `id`.
+pub fn needed_member(kind: KindName) -> &'static str
+    ensures { result.now ≡ spec_needed_member kind }
+{
+    match kind {
+        KindName::Stage | KindName::Stack | KindName::Group => "children",
+        KindName::Resource | KindName::Parameter => "type",
+        KindName::Condition => "expression",
+        KindName::Mapping => "mappings",
+        KindName::Output | KindName::Lazy => "value",
+    }
+}
+
+fn schema_in(members: &Map) -> Schema
+    ensures { result ≡ spec_schema_named (spec_text_at (codes "app") (members_view members.now.entries)) }
+{
+    match text_at(members, "app") {
+        Some(name) => if name == "2" {
+            Schema::Two
+        } else {
+            Schema::One
+        },
+        None => Schema::One,
+    }
+}
+
+/// What an object in a role is.
+pub fn frame_of(role: Role, members: &Map) -> Frame
+    ensures { result ≡ spec_frame_of role (members_view members.now.entries) }
+{
+    match role {
+        Role::Document => Frame::Document(schema_in(members)),
+        Role::Construct(schema) => match kind_in(members) {
+            Some(kind) => Frame::Construct(schema, kind),
+            None => Frame::Unknown,
+        },
+        Role::Context | Role::Literal => Frame::Literals,
+        Role::FreeLiteral => Frame::FreeLiterals,
+        Role::Entry(schema) => Frame::Entry(schema),
+        Role::Mapping => Frame::Mapping,
+        Role::MappingRow => Frame::MappingRow,
+        Role::Properties => Frame::Properties,
+        Role::Expression(within) => if has_form_key(members) {
+            Frame::Form(within)
+        } else {
+            Frame::Fields(within)
+        },
+        Role::TextPlace(within) | Role::Piece(within) | Role::ListPlace(within) => {
+            Frame::Form(within)
+        }
+        Role::SubVariables(within) => Frame::SubVariables(within),
+        Role::Condition => Frame::Condition,
+        _ => Frame::Anything,
+    }
+}
+
+fn document_member(schema: Schema, key: &str) -> Role
+    ensures { result ≡ spec_document_member schema key.now }
+{
+    if key == "app" {
+        Role::SchemaName
+    } else if key == "children" {
+        Role::Constructs(schema)
+    } else if key == "context" {
+        Role::Context
+    } else if key == "aspects" {
+        Role::Entries(schema)
+    } else {
+        Role::Nothing
+    }
+}
+
+fn in_schema_2(schema: Schema, role: Role) -> Role
+    ensures { result ≡ spec_in_schema_2 schema role }
+{
+    match schema {
+        Schema::One => Role::Nothing,
+        Schema::Two => role,
+    }
+}
+
+fn element_member(schema: Schema, key: &str) -> Role
+    ensures { result ≡ spec_element_member schema key.now }
+{
+    if key == "logicalId" {
+        in_schema_2(schema, Role::Text)
+    } else {
+        Role::Nothing
+    }
+}
+
+fn stage_member(schema: Schema, key: &str) -> Role
+    ensures { result ≡ spec_kind_member schema kinds.Stage key.now }
+{
+    if key == "children" {
+        Role::Constructs(schema)
+    } else if key == "aspects" {
+        Role::Entries(schema)
+    } else {
+        Role::Nothing
+    }
+}
+
+fn stack_member(schema: Schema, key: &str) -> Role
+    ensures { result ≡ spec_kind_member schema kinds.Stack key.now }
+{
+    if key == "children" {
+        Role::Constructs(schema)
+    } else if key == "aspects" {
+        Role::Entries(schema)
+    } else if key == "description" {
+        Role::Text
+    } else if key == "dependsOn" {
+        Role::Texts
+    } else {
+        Role::Nothing
+    }
+}
+
+fn group_member(schema: Schema, key: &str) -> Role
+    ensures { result ≡ spec_kind_member schema kinds.Group key.now }
+{
+    if key == "children" {
+        Role::Constructs(schema)
+    } else if key == "aspects" {
+        Role::Entries(schema)
+    } else if key == "dependsOn" {
+        Role::Texts
+    } else {
+        Role::Nothing
+    }
+}
+
+fn resource_member(schema: Schema, key: &str) -> Role
+    ensures { result ≡ spec_kind_member schema kinds.Resource key.now }
+{
+    if key == "type" {
+        Role::NonEmptyText
+    } else if key == "properties" {
+        Role::Properties
+    } else if key == "condition" {
+        Role::Text
+    } else if key == "dependsOn" {
+        Role::Texts
+    } else if key == "aspects" {
+        Role::Entries(schema)
+    } else if key == "deletionPolicy" {
+        Role::Policy
+    } else if key == "updateReplacePolicy" {
+        Role::Policy
+    } else {
+        element_member(schema, key)
+    }
+}
+
+fn parameter_member(schema: Schema, key: &str) -> Role
+    ensures { result ≡ spec_kind_member schema kinds.Parameter key.now }
+{
+    if key == "type" {
+        Role::ParameterType
+    } else if key == "default" {
+        Role::Text
+    } else if key == "description" {
+        Role::Text
+    } else {
+        element_member(schema, key)
+    }
+}
+
+fn output_member(schema: Schema, key: &str) -> Role
+    ensures { result ≡ spec_kind_member schema kinds.Output key.now }
+{
+    if key == "value" {
+        Role::Expression(Within::Construct)
+    } else if key == "description" {
+        Role::Text
+    } else if key == "exportName" {
+        Role::ExportName
+    } else if key == "condition" {
+        Role::Text
+    } else {
+        element_member(schema, key)
+    }
+}
+
+fn condition_construct_member(schema: Schema, key: &str) -> Role
+    ensures { result ≡ spec_kind_member schema kinds.Condition key.now }
+{
+    if key == "expression" {
+        Role::Condition
+    } else {
+        element_member(schema, key)
+    }
+}
+
+fn mapping_member(schema: Schema, key: &str) -> Role
+    ensures { result ≡ spec_kind_member schema kinds.Mapping key.now }
+{
+    if key == "mappings" {
+        Role::Mapping
+    } else {
+        element_member(schema, key)
+    }
+}
+
+fn lazy_member(key: &str) -> Role
+    ensures { result ≡ spec_kind_member schemas.One kinds.Lazy key.now }
+{
+    if key == "value" {
+        Role::Expression(Within::Construct)
+    } else {
+        Role::Nothing
+    }
+}
+
+fn kind_member(schema: Schema, kind: KindName, key: &str) -> Role
+    ensures { result ≡ spec_kind_member schema kind key.now }
+{
+    match kind {
+        KindName::Stage => stage_member(schema, key),
+        KindName::Stack => stack_member(schema, key),
+        KindName::Group => group_member(schema, key),
+        KindName::Resource => resource_member(schema, key),
+        KindName::Parameter => parameter_member(schema, key),
+        KindName::Condition => condition_construct_member(schema, key),
+        KindName::Mapping => mapping_member(schema, key),
+        KindName::Output => output_member(schema, key),
+        KindName::Lazy => lazy_member(key),
+    }
+}
+
+fn construct_member(schema: Schema, kind: KindName, key: &str) -> Role
+    ensures { result ≡ spec_construct_member schema kind key.now }
+{
+    if key == "kind" {
+        Role::Text
+    } else if key == "id" {
+        Role::Text
+    } else if key == "context" {
+        Role::Context
+    } else {
+        kind_member(schema, kind, key)
+    }
+}
+
+fn entry_member(schema: Schema, key: &str) -> Role
+    ensures { result ≡ spec_entry_member schema key.now }
+{
+    if key == "name" {
+        Role::Text
+    } else if key == "with" {
+        Role::FreeLiteral
+    } else if key == "priority" {
+        in_schema_2(schema, Role::Priority)
+    } else {
+        Role::Nothing
+    }
+}
+
+fn form_member(within: Within, key: &str) -> Role
+    ensures { result ≡ spec_form_member within key.now }
+{
+    if key == "Ref" {
+        Role::Text
+    } else if key == "Fn::GetAtt" {
+        Role::GetAttArguments
+    } else if key == "Fn::Join" {
+        Role::JoinArguments(within)
+    } else if key == "Fn::Select" {
+        Role::SelectArguments(within)
+    } else if key == "Fn::Split" {
+        Role::SplitArguments(within)
+    } else if key == "Fn::If" {
+        Role::IfArguments(within)
+    } else if key == "Fn::FindInMap" {
+        Role::FindInMapArguments(within)
+    } else if key == "Fn::ImportValue" {
+        Role::NonEmptyText
+    } else if key == "Fn::Sub" {
+        Role::SubArgument(within)
+    } else if key == "CDK::Concat" {
+        Role::ConcatArguments(within)
+    } else if key == "CDK::Context" {
+        Role::ContextArguments
+    } else if key == "CDK::Lazy" {
+        Role::Text
+    } else {
+        Role::Nothing
+    }
+}
+
+fn condition_member(key: &str) -> Role
+    ensures { result ≡ spec_condition_member key.now }
+{
+    if key == "Fn::Equals" {
+        Role::EqualsArguments
+    } else if key == "Fn::And" {
+        Role::ConditionArguments
+    } else if key == "Fn::Or" {
+        Role::ConditionArguments
+    } else if key == "Fn::Not" {
+        Role::NotArguments
+    } else if key == "Condition" {
+        Role::Text
+    } else {
+        Role::Nothing
+    }
+}
+
+fn unless_form_key(key: &str, role: Role) -> Role
+    ensures { result ≡ (if spec_is_form_key key.now then roles.Nothing else role) }
+{
+    if is_form_key(key) {
+        Role::Nothing
+    } else {
+        role
+    }
+}
+
+/// The role of a member.
+pub fn member_role(frame: Frame, key: &str) -> Role
+    ensures { result ≡ spec_member_role frame key.now }
+{
+    match frame {
+        Frame::Anything => Role::Anything,
+        Frame::Unknown => if key == "kind" {
+            Role::Nothing
+        } else {
+            Role::Anything
+        },
+        Frame::Document(schema) => document_member(schema, key),
+        Frame::Construct(schema, kind) => construct_member(schema, kind, key),
+        Frame::Entry(schema) => entry_member(schema, key),
+        Frame::Literals => unless_form_key(key, Role::Literal),
+        Frame::FreeLiterals => Role::FreeLiteral,
+        Frame::Mapping => Role::MappingRow,
+        Frame::MappingRow => Role::MappingLeaf,
+        Frame::Properties => unless_form_key(key, Role::Expression(Within::Construct)),
+        Frame::Fields(within) => Role::Expression(within),
+        Frame::Form(within) => form_member(within, key),
+        Frame::SubVariables(within) => if is_variable_name(key) {
+            Role::TextPlace(within)
+        } else {
+            Role::Nothing
+        },
+        Frame::Condition => condition_member(key),
+    }
+}
+
+fn first_else(at: usize, role: Role, other: Role) -> Role
+    ensures { result ≡ spec_first_else at role other }
+{
+    if at == 0 { role } else { other }
+}
+
+/// The role of an item.
+pub fn item_role(role: Role, at: usize) -> Role
+    ensures { result ≡ spec_item_role role at }
+{
+    match role {
+        Role::Constructs(schema) => Role::Construct(schema),
+        Role::Literal => Role::Literal,
+        Role::FreeLiteral => Role::FreeLiteral,
+        Role::Entries(schema) => Role::Entry(schema),
+        Role::Texts => Role::Text,
+        Role::Expression(within) | Role::ListPlace(within) => Role::Expression(within),
+        Role::GetAttArguments => first_else(at, Role::Text, Role::Attribute),
+        Role::JoinArguments(within) => first_else(at, Role::Text, Role::ListPlace(within)),
+        Role::SelectArguments(within) => first_else(at, Role::Index, Role::ListPlace(within)),
+        Role::SplitArguments(within) => {
+            first_else(at, Role::NonEmptyText, Role::TextPlace(within))
+        }
+        Role::IfArguments(within) => first_else(at, Role::Text, Role::Expression(within)),
+        Role::FindInMapArguments(within) => first_else(at, Role::Text, Role::TextPlace(within)),
+        Role::SubArgument(within) => {
+            first_else(at, Role::SubText(within), Role::SubVariables(within))
+        }
+        Role::ConcatArguments(within) => Role::Piece(within),
+        Role::ContextArguments => first_else(at, Role::Text, Role::Literal),
+        Role::EqualsArguments => Role::TextPlace(Within::Condition),
+        Role::ConditionArguments | Role::NotArguments => Role::Condition,
+        _ => Role::Anything,
+    }
+}

@@ -1,0 +1,88 @@
+// What a text has to be in its place.
+ghost use Rattle.std.specs.Prelude.{◌≡◌, ◌≤◌, count_by, length};
+ghost use Rattle.cdk_language.specs.Schema.{begins_character as spec_begins_character, is_export_name as spec_is_export_name, is_filled as spec_is_filled, is_parameter_type as spec_is_parameter_type, is_policy_name as spec_is_policy_name, is_schema_name as spec_is_schema_name, is_wrong_sub_text as spec_is_wrong_sub_text, is_barred_piece as spec_is_barred_piece};
+ghost use Rattle.cdk_language.specs.SubView.{piece_view};
+
+use cdk_language::{FirstPiece, SubPiece, Within, first_piece};
+
+pub fn is_filled(text: &str) -> bool
+    ensures { result ≡ spec_is_filled text.now }
+{
+    !text.is_empty()
+}
+
+pub fn is_schema_name(text: &str) -> bool
+    ensures { result ≡ spec_is_schema_name text.now }
+{
+    text == "1" || text == "2"
+}
+
+pub fn is_policy_name(text: &str) -> bool
+    ensures { result ≡ spec_is_policy_name text.now }
+{
+    text == "Delete" || text == "Retain" || text == "Snapshot"
+}
+
+pub fn is_parameter_type(text: &str) -> bool
+    ensures { result ≡ spec_is_parameter_type text.now }
+{
+    text == "String" || text == "Number" || text == "CommaDelimitedList"
+}
+
+fn begins_character(byte: u8) -> bool
+    ensures { result ≡ spec_begins_character byte }
+{
+    byte < 128 || !(byte < 192)
+}
+
+fn characters(text: &str) -> usize
+    ensures { result ≡ count_by spec_begins_character text.now }
+{
+    let mut count = 0;
+    for byte in text.as_bytes() {
+        if begins_character(*byte) {
+            count += 1;
+        }
+    }
+    count
+}
+
+/// Whether the text has 1 to 255 characters.
+pub fn is_export_name(text: &str) -> bool
+    ensures { result ≡ spec_is_export_name text.now }
+{
+    let count = characters(text);
+    count != 0 && count < 256
+}
+
+fn is_barred_piece(within: Within, piece: SubPiece<'_>) -> bool
+    ensures { result ≡ spec_is_barred_piece within (piece_view piece.entry) }
+{
+    match within {
+        Within::Construct => false,
+        Within::Condition => match piece {
+            SubPiece::Kept(_) => false,
+            SubPiece::Name(name) => name == "AWS::NoValue",
+            SubPiece::Attribute(_, _) => true,
+        },
+    }
+}
+
+/// Whether the text of a Sub can't be cut into pieces, or has a piece that may not stand here.
+pub fn is_wrong_sub_text(within: Within, text: &str) -> bool
+    ensures { result ≡ spec_is_wrong_sub_text within text.now }
+{
+    let mut rest = text;
+    loop {
+        match first_piece(rest) {
+            FirstPiece::Literal => return false,
+            FirstPiece::Wrong => return true,
+            FirstPiece::Piece { piece, after, .. } => {
+                if is_barred_piece(within, piece) {
+                    return true;
+                }
+                rest = after;
+            }
+        }
+    }
+}
