@@ -121,3 +121,13 @@ module _ (W : Num → Type 0) where
   application_written d h is =
       only_written (children_of d) (children_ordered d h)
       (and_back (has_keys (codes "app" ∷ codes "children" ∷ []) d) _ (and_back (bytes_eq (text_at (codes "app") d) (codes "1")) _ is))
+
+only_literal : (ds : List Data) → is_one_stack ds ≡ true → is_literal_stack (only_stack ds) ≡ true
+only_literal [] is = absurd (true≢false (sym is))
+only_literal (d ∷ []) is = and_back (is_stack_document d) _ is
+only_literal (d ∷ e ∷ ds) is = absurd (true≢false (sym is))
+
+-- the stack of an application has the form of a stack of literals
+pub application_literal : (d : Data) → is_application d ≡ true → is_literal_stack (stack_in d) ≡ true
+application_literal d is =
+    only_literal (children_of d) (and_back (has_keys (codes "app" ∷ codes "children" ∷ []) d) _ (and_back (bytes_eq (text_at (codes "app") d) (codes "1")) _ is))

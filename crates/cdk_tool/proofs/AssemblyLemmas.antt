@@ -1,5 +1,5 @@
 -- The first fault and the files of bytes, case by case.
-use Rattle.std.proofs.Common.{◌≡◌, ℕ, ◌<◌, ◌≤◌, List, [], ◌∷◌, length, Bool, true, false, Option, Some, None, if◌then◌else◌, nat_lt, refl, sym, ap, ◌∙◌, subst, arith}
+use Rattle.std.proofs.Common.{◌≡◌, ℕ, ◌<◌, ◌≤◌, List, length, true, false, Option, Some, if◌then◌else◌, nat_lt, sym, ap, ◌∙◌, subst, arith}
 use Rattle.std.proofs.lemmas.Bool.Decides.{nat_tests}
 use Rattle.serde_json.specs.Data.{Data}
 use Rattle.cdk_base.specs.Json.{parsed}
@@ -10,7 +10,7 @@ use Rattle.cdk_literals.specs.LiteralStack.{LiteralStack}
 use Rattle.cdk_literals.specs.Form.{is_application, stack_in}
 use Rattle.cdk_literals.specs.Written.{IsWrittenStack}
 use Rattle.cdk_literals.proofs.FormLaws.{application_written}
-use Rattle.cdk_tool.specs.Assembly.{Found, found, document_fault, first_fault, assembly_of, files_of_stack, document_files}
+use Rattle.cdk_tool.specs.Assembly.{found, document_fault, first_fault, assembly_of, files_of_stack, document_files}
 use Rattle.cdk_tool.specs.declared.synthesis.File.{File}
 
 -- not too long: the fault is the document's

@@ -1,2 +1,5 @@
 pub mod Assembly
+pub mod Causes
+pub mod Headline
+pub mod Status
 pub mod Words

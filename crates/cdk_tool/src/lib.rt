@@ -1,8 +1,12 @@
 //! The commands of the program: words, synthesis, the order of reads and writes, and each answer with its cause.
 #![tactic(auto)]
 
+mod status;
 mod synthesis;
+mod top;
 mod words;
 
+pub use status::Status;
 pub use synthesis::{File, synth};
+pub use top::run;
 pub use words::{Command, plain};

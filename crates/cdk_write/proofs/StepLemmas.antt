@@ -1,8 +1,11 @@
 -- One step more.
-use Rattle.std.proofs.Common.{◌≡◌, ℕ, zero, suc, ◌<◌, List, [], ◌∷◌, length, map, take, get_or, ap, sym, ◌∙◌, arith, Some}
-use Rattle.std.specs.Prelude.{slice_get}
+use Rattle.std.proofs.Common.{refl, ◌≡◌, ℕ, zero, suc, ◌<◌, List, [], ◌∷◌, length, map, take, get_or, ap, sym, ◌∙◌, arith, Some}
+use Rattle.std.specs.Prelude.{slice_get, unwrap_or}
 use Rattle.cdk_outside.specs.Outside.{Contents, Directories}
-use Rattle.cdk_write.specs.Steps.{WriteStep, files_after, directories_after, files_after_all, directories_after_all}
+use Rattle.cdk_write.specs.declared.step.Action.{Action}
+use Rattle.cdk_write.specs.declared.step.Action.TheVariants as action
+use Rattle.cdk_write.specs.declared.step.Step.{Step}
+use Rattle.cdk_write.specs.Steps.{WriteStep, step_path, step_of, step_view, files_after, directories_after, files_after_all, directories_after_all}
 
 -- the files after one step more of the list
 pub files_next : {X : Type 0} (h : X → WriteStep) (xs : List X) (k : ℕ) (x : X) (files before after : Contents) → k < length xs → x ≡ get_or xs k x → before ≡ files_after_all (take k (map h xs)) files → after ≡ files_after (h x) before → after ≡ files_after_all (take (suc k) (map h xs)) files
@@ -21,3 +24,13 @@ pub step_at : {X Y : Type 0} (h : X → Y) (xs : List X) (k : ℕ) (x : X) → k
 step_at h [] k x within is = absurd (omega arith)
 step_at h (y ∷ ys) zero x within is = ap (λ z. Some (h z)) (sym is)
 step_at h (y ∷ ys) (suc k) x within is = step_at h ys k x (omega arith) is
+
+path_of_step : (a : Action) (path : List ℕ) → step_path (step_of a path) ≡ path
+path_of_step action.MakeDirectory path = refl
+path_of_step action.Remove path = refl
+path_of_step (action.Put bytes) path = refl
+
+-- the path of the step at which the writing stopped is that of the program's step
+pub stopped_path : (steps : List Step) (k : ℕ) (item : Step) (s : WriteStep) → k < length steps → item ≡ get_or steps k item → slice_get (map step_view steps) k ≡ Some s → step_path s ≡ item.path
+stopped_path steps k item s within is found =
+    ap step_path (ap (λ o. unwrap_or o s) (sym found ∙ step_at step_view steps k item within is)) ∙ path_of_step item.action item.path

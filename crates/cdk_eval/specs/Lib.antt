@@ -1,0 +1,15 @@
+pub mod Assembly
+pub mod Conditions
+pub mod Faults
+pub mod Form
+pub mod Manifest
+pub mod Outcomes
+pub mod Reach
+pub mod Reading
+pub mod Sections
+pub mod Stack
+pub mod SubText
+pub mod Template
+pub mod Texts
+pub mod Values
+pub mod ValuesFile

@@ -1,0 +1,11 @@
+//! Tests that cross crates: worked applications run whole over files and streams in memory.
+#![tactic(auto)]
+
+#[cfg(test)]
+mod bucket;
+#[cfg(test)]
+mod failures;
+#[cfg(test)]
+mod refusals;
+#[cfg(test)]
+mod world;

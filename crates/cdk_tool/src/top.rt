@@ -1,0 +1,234 @@
+// The top call: the order of refusals, of the memory that is taken and of the writes.
+ghost use Rattle.std.specs.Prelude.{◌≡◌, ◌≤◌, ℕ, List, true, false, [], ◌∷◌, IfOk, IfErr, IfSome, OnSome, OnErr, None, Some, MatchOption, map};
+ghost use Rattle.cdk_outside.specs.Outside.{Holds, Rose};
+ghost use Rattle.cdk_write.specs.Lines.{read_line, write_line, error_line, bad_words_line, memory_line, Says};
+ghost use Rattle.cdk_write.specs.Steps.{step_view, step_path, files_after_all, directories_after_all, StoppedAt, put, path_in as path_in_directory};
+ghost use Rattle.cdk_tool.specs.Assembly.{first_fault, assembly_of, steps_of as steps_of_writing, AllUtf8};
+ghost use Rattle.cdk_tool.specs.Headline.{MeaningIsKept};
+ghost use Rattle.cdk_tool.specs.Words.{command_of};
+ghost use Rattle.cdk_tool.specs.Status.{is_of_synth, is_of_writing, may_have_written, IsComplete};
+ghost use Rattle.cdk_tool.specs.Causes.{IsCause, IsDone, IsCut, IsReadFault, IsAppFault, IsToldFault, IsToldRefusal};
+
+use crate::synthesis::{MOST_BYTES, fault_at_root};
+use crate::words::synth_words;
+use crate::{File, Status, plain, synth};
+use cdk_base::{Code, Fault, List, Text};
+use cdk_outside::{Files, ReadError, Sink};
+use cdk_write::{
+    Action, BAD_WORDS, OUT_OF_MEMORY, Step, error_text, path_in, read_text, tell, write_steps,
+};
+use std::alloc::{AllocError, Global};
+
+// Why nothing is written.
+#[derive(Drop)]
+enum Refusal {
+    // A read of the application has failed.
+    Unread,
+    // The application has a fault, or no memory was found for telling it.
+    Faulty(Fault),
+    // No memory was found.
+    NoRoom,
+}
+
+// The files of the application's assembly.
+fn gather<F: Files>(alloc: Global, app: &str, files: &mut F) -> Result<List<File>, Refusal>
+    ensures ok { IfOk result (λ list. (bytes : List ℕ) × Holds (F.files files.old) app.now bytes × (first_fault bytes ≡ None) × (list ≡ assembly_of bytes) × AllUtf8 list) }
+    ensures refused { IfErr result (λ refusal. IsCause refusal (F.files files.old) app.now (F.read_faults files.old) (F.read_faults files.new) (F.failed_read files.new)) }
+    ensures files { F.files files.new ≡ F.files files.old }
+    ensures directories { F.directories files.new ≡ F.directories files.old }
+    ensures never_falls { F.read_faults files.old ≤ F.read_faults files.new }
+    ensures write_faults { F.write_faults files.new ≡ F.write_faults files.old }
+    ensures failed_write { F.failed_write files.new ≡ F.failed_write files.old }
+{
+    match files.read(alloc, app, MOST_BYTES) {
+        Ok(bytes) => match synth(alloc, bytes.as_slice(), &[]) {
+            Ok(list) => Ok(list),
+            Err(fault) => Err(Refusal::Faulty(fault)),
+        },
+        Err(ReadError::TooLong) => Err(Refusal::Faulty(fault_at_root(alloc, Code::TooLong))),
+        Err(ReadError::Failed) => Err(Refusal::Unread),
+        Err(ReadError::Memory) => Err(Refusal::NoRoom),
+    }
+}
+
+// The steps before the first file: the directory is made, and the manifest of before is taken out.
+fn first_steps<'a>(alloc: Global, directory: &str) -> Result<Vec<Step<'a>>, AllocError>
+    ensures { IfOk result (λ steps. map step_view steps.items ≡ steps_of_writing directory.now []) }
+{
+    let path = Text::new(alloc, directory)?;
+    let make = Step::new(alloc, Action::MakeDirectory, path)?;
+    let path = path_in(alloc, directory, "manifest.json")?;
+    let remove = Step::new(alloc, Action::Remove, path)?;
+    let mut steps = Vec::new(alloc);
+    steps.push(make)?;
+    steps.push(remove)?;
+    Ok(steps)
+}
+
+fn step_of<'a>(alloc: Global, directory: &str, file: &'a File) -> Result<Step<'a>, AllocError>
+    ensures { IfOk result (λ step. step_view step ≡ put (path_in_directory directory.now file.now.name) file.now.bytes) }
+{
+    let path = path_in(alloc, directory, file.name.as_str())?;
+    Step::new(alloc, Action::Put(file.bytes.as_slice()), path)
+}
+
+// The steps of writing the files, each with its path and its line.
+fn steps_of<'a>(
+    alloc: Global,
+    directory: &str,
+    list: &'a [File],
+) -> Result<Vec<Step<'a>>, AllocError>
+    ensures { IfOk result (λ steps. map step_view steps.items ≡ steps_of_writing directory.now list.now) }
+{
+    let mut steps = first_steps(alloc, directory)?;
+    for file in list {
+        steps.push(step_of(alloc, directory, file)?)?;
+    }
+    Ok(steps)
+}
+
+// Performs the steps. Where one fails, its line is said. No memory is asked for.
+fn perform<F: Files, E: Sink>(steps: &[Step<'_>], files: &mut F, err: &mut E) -> Status
+    ensures kind { is_of_writing result ≡ true }
+    ensures done { result ≡ Status.Done → F.files files.new ≡ files_after_all (map step_view steps.now) (F.files files.old) }
+    ensures done_directories { result ≡ Status.Done → F.directories files.new ≡ directories_after_all (map step_view steps.now) (F.directories files.old) }
+    ensures done_err { result ≡ Status.Done → E.written err.new ≡ E.written err.old }
+    ensures cut { result ≡ Status.WriteFault → (k : ℕ) × (stop : StoppedAt (map step_view steps.now) k (F.files files.old) (F.files files.new) (F.directories files.old) (F.directories files.new) (F.failed_write files.new))
+        × Says (E.written err.old) (E.written err.new) (E.faults err.old) (E.faults err.new) (write_line (step_path stop.step)) }
+    ensures rose { result ≡ Status.WriteFault → Rose (F.write_faults files.old) (F.write_faults files.new) }
+    ensures never_falls { F.write_faults files.old ≤ F.write_faults files.new }
+    ensures read_faults { F.read_faults files.new ≡ F.read_faults files.old }
+    ensures failed_read { F.failed_read files.new ≡ F.failed_read files.old }
+{
+    match write_steps(files, steps) {
+        Ok(()) => Status::Done,
+        Err(k) => {
+            tell(err, steps[k].line.as_str());
+            Status::WriteFault
+        }
+    }
+}
+
+#[tactic(auto, unfolding(cdk_write::specs::Lines::memory_line))]
+fn out_of_memory<E: Sink>(err: &mut E) -> Status
+    ensures status { result ≡ Status.NoMemory }
+    ensures said { Says (E.written err.old) (E.written err.new) (E.faults err.old) (E.faults err.new) memory_line }
+{
+    tell(err, OUT_OF_MEMORY);
+    Status::NoMemory
+}
+
+fn tell_fault<E: Sink>(alloc: Global, fault: Fault, err: &mut E) -> Status
+    ensures { IsToldFault fault result (E.written err.old) (E.written err.new) (E.faults err.old) (E.faults err.new) }
+{
+    match fault {
+        Fault::App { code, place } => match error_text(alloc, code, place.as_str()) {
+            Ok(line) => {
+                tell(err, line.as_str());
+                Status::AppFault
+            }
+            Err(_) => out_of_memory(err),
+        },
+        _ => out_of_memory(err),
+    }
+}
+
+// What is said of a refusal, and its status.
+fn refuse<E: Sink>(alloc: Global, app: &str, refusal: Refusal, err: &mut E) -> Status
+    ensures { IsToldRefusal refusal result app.now (E.written err.old) (E.written err.new) (E.faults err.old) (E.faults err.new) }
+{
+    match refusal {
+        Refusal::Unread => match read_text(alloc, app) {
+            Ok(line) => {
+                tell(err, line.as_str());
+                Status::ReadFault
+            }
+            Err(_) => out_of_memory(err),
+        },
+        Refusal::Faulty(fault) => tell_fault(alloc, fault, err),
+        Refusal::NoRoom => out_of_memory(err),
+    }
+}
+
+fn synth_command<F: Files, E: Sink>(
+    alloc: Global,
+    app: &str,
+    directory: &str,
+    files: &mut F,
+    err: &mut E,
+) -> Status
+    ensures kind { is_of_synth result ≡ true }
+    ensures read { result ≡ Status.ReadFault → IsReadFault app.now (F.read_faults files.old) (F.read_faults files.new) (F.failed_read files.new) (E.written err.old) (E.written err.new) (E.faults err.old) (E.faults err.new) }
+    ensures fault { result ≡ Status.AppFault → IsAppFault (F.files files.old) app.now (E.written err.old) (E.written err.new) (E.faults err.old) (E.faults err.new) }
+    ensures done { result ≡ Status.Done → IsDone app.now directory.now (F.files files.old) (F.files files.new) (F.directories files.old) (F.directories files.new) }
+    ensures meaning { result ≡ Status.Done → MeaningIsKept app.now directory.now (F.files files.old) (F.files files.new) }
+    ensures done_err { result ≡ Status.Done → E.written err.new ≡ E.written err.old }
+    ensures cut { result ≡ Status.WriteFault → IsCut app.now directory.now (F.files files.old) (F.files files.new) (F.directories files.old) (F.directories files.new) (F.failed_write files.new) (E.written err.old) (E.written err.new) (E.faults err.old) (E.faults err.new) }
+    ensures rose { result ≡ Status.WriteFault → Rose (F.write_faults files.old) (F.write_faults files.new) }
+    ensures kept_files { may_have_written result ≡ false → F.files files.new ≡ F.files files.old }
+    ensures kept_directories { may_have_written result ≡ false → F.directories files.new ≡ F.directories files.old }
+    ensures memory { result ≡ Status.NoMemory → Says (E.written err.old) (E.written err.new) (E.faults err.old) (E.faults err.new) memory_line }
+{
+    match gather(alloc, app, files) {
+        Ok(list) => match steps_of(alloc, directory, list.as_slice()) {
+            Ok(steps) => perform(steps.as_slice(), files, err),
+            Err(_) => out_of_memory(err),
+        },
+        Err(refusal) => refuse(alloc, app, refusal, err),
+    }
+}
+
+#[tactic(auto, unfolding(cdk_write::specs::Lines::bad_words_line))]
+fn bad_words<E: Sink>(err: &mut E) -> Status
+    ensures status { result ≡ Status.BadWords }
+    ensures said { Says (E.written err.old) (E.written err.new) (E.faults err.old) (E.faults err.new) bad_words_line }
+{
+    tell(err, BAD_WORDS);
+    Status::BadWords
+}
+
+/// Carries out the command that the words name, and answers how it ended. Words that aren't plain are refused.
+///
+/// `synth APP OUTDIR` reads APP and makes the whole assembly in memory, with all names and lines; only then it makes the
+/// directory OUTDIR, takes `OUTDIR/manifest.json` out and writes the files in order, the manifest last. It writes nothing
+/// to `out`. Each answer but `Done` has its one line on `err`; a failed write of the line changes nothing else.
+pub fn run<F: Files, O: Sink, E: Sink>(
+    alloc: Global,
+    words: &[Text],
+    files: &mut F,
+    out: &mut O,
+    err: &mut E,
+) -> Status
+    // Bad words exactly where the words aren't plain.
+    ensures bad_words { MatchOption (command_of words.now) (result ≡ Status.BadWords) (λ _. is_of_synth result ≡ true) }
+    ensures bad_words_line { result ≡ Status.BadWords → Says (E.written err.old) (E.written err.new) (E.faults err.old) (E.faults err.new) bad_words_line }
+    // A read fault only where the count of failed reads rose and the kept name is the application's.
+    ensures read { result ≡ Status.ReadFault → IfSome (command_of words.now) (λ c. IsReadFault c.app (F.read_faults files.old) (F.read_faults files.new) (F.failed_read files.new) (E.written err.old) (E.written err.new) (E.faults err.old) (E.faults err.new)) }
+    // A fault of the application that is held, and the line names it.
+    ensures fault { result ≡ Status.AppFault → IfSome (command_of words.now) (λ c. IsAppFault (F.files files.old) c.app (E.written err.old) (E.written err.new) (E.faults err.old) (E.faults err.new)) }
+    // An application without fault, and its assembly is written whole.
+    ensures done { result ≡ Status.Done → IfSome (command_of words.now) (λ c. IsDone c.app c.directory (F.files files.old) (F.files files.new) (F.directories files.old) (F.directories files.new)) }
+    // Evaluating the written files gives each property its meaning in the construct tree, under all values, and no text or
+    // key of a template has the beginning of a token's marker.
+    ensures meaning { result ≡ Status.Done → IfSome (command_of words.now) (λ c. MeaningIsKept c.app c.directory (F.files files.old) (F.files files.new)) }
+    ensures done_err { result ≡ Status.Done → E.written err.new ≡ E.written err.old }
+    // An application without fault whose writing stopped at a call that failed; what stands, and the name in the line.
+    ensures cut { result ≡ Status.WriteFault → IfSome (command_of words.now) (λ c. IsCut c.app c.directory (F.files files.old) (F.files files.new) (F.directories files.old) (F.directories files.new) (F.failed_write files.new) (E.written err.old) (E.written err.new) (E.faults err.old) (E.faults err.new)) }
+    ensures rose { result ≡ Status.WriteFault → Rose (F.write_faults files.old) (F.write_faults files.new) }
+    // All other answers leave files and directories as they were; no answer touches `out`.
+    ensures kept_files { may_have_written result ≡ false → F.files files.new ≡ F.files files.old }
+    ensures kept_directories { may_have_written result ≡ false → F.directories files.new ≡ F.directories files.old }
+    ensures out { O.written out.new ≡ O.written out.old }
+    ensures memory { result ≡ Status.NoMemory → Says (E.written err.old) (E.written err.new) (E.faults err.old) (E.faults err.new) memory_line }
+    // Where no call of the files fails, plain words are carried out, unless the application has a fault or memory is wanting.
+    ensures complete { OnSome (command_of words.now) (¬ (Rose (F.read_faults files.old) (F.read_faults files.new)) → ¬ (Rose (F.write_faults files.old) (F.write_faults files.new)) → IsComplete result) }
+{
+    let _untouched = out;
+    match plain(words) {
+        None => bad_words(err),
+        Some(command) => {
+            let (app, directory) = synth_words(command);
+            synth_command(alloc, app, directory, files, err)
+        }
+    }
+}
