@@ -8,6 +8,7 @@ use Rattle.cdk_tree.specs.Lists.{list_lazies}
 use Rattle.cdk_tree.specs.NodesView.{placed_nodes}
 use Rattle.cdk_tree.specs.PlaceFindings.{first, found_at, place_findings}
 use Rattle.cdk_tree.specs.Placed.{Placed, construct_at, constructs_of}
+use Rattle.cdk_tree.specs.Walking.{IsSound}
 use Rattle.cdk_tree.specs.declared.role.Found.{Found}
 use Rattle.cdk_tree.specs.declared.role.Look.{Look}
 use Rattle.cdk_tree.specs.declared.tree.Tree.{Tree}
@@ -15,9 +16,9 @@ use Rattle.cdk_tree.specs.declared.tree.Tree.{Tree}
 abbrev pub constructs : Tree → List Placed
 constructs t = placed_nodes t.nodes
 
--- these are the constructs of the application, with nothing wrong, or the first thing that is wrong
+-- these are the constructs of the application, and nothing is wrong with them, or the first thing that is wrong
 abbrev pub Builds : Result Tree Fault → Application → Type 0
-Builds (Ok t) a = (constructs t ≡ constructs_of a) × (place_findings (constructs_of a) ≡ [])
+Builds (Ok t) a = (constructs t ≡ constructs_of a) × IsSound (constructs_of a)
 Builds (Err faults.Memory) a = Unit {0}
 Builds (Err (faults.App code place)) a = first (place_findings (constructs_of a)) ≡ Some (found_at place code)
 Builds (Err (faults.Refused place name text)) a = ⊥

@@ -82,9 +82,9 @@ Enters (Err faults.Memory) cs m c before after = Unit {0}
 Enters (Err (faults.App code place)) cs m (language.construct h b kids) before after = (wrong_code cs m h.id b ≡ Some code) × (place ≡ path_in (construct_at cs m).path h.id)
 Enters (Err (faults.Refused place name text)) cs m c before after = ⊥
 
--- these are all constructs, with nothing wrong, or the first thing that is wrong
+-- these are all constructs, and nothing is wrong with them, or the first thing that is wrong
 abbrev pub Completes : Result Nodes Fault → List Placed → Type 0
-Completes (Ok t) all = (placed_nodes t ≡ all) × (place_findings all ≡ [])
+Completes (Ok t) all = (placed_nodes t ≡ all) × IsSound all
 Completes (Err faults.Memory) all = Unit {0}
 Completes (Err (faults.App code place)) all = first (place_findings all) ≡ Some (found_at place code)
 Completes (Err (faults.Refused place name text)) all = ⊥
