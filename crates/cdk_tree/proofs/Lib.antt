@@ -1,0 +1,12 @@
+pub mod Examples
+pub mod Findings
+pub mod MarkingLemmas
+pub mod NeededLemmas
+pub mod Numbered
+pub mod PathLaw
+pub mod RefusedLemmas
+pub mod ScopeLemmas
+pub mod SlotLemmas
+pub mod SoundLemmas
+pub mod Tests
+pub mod WalkLemmas
