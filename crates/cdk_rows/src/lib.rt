@@ -10,4 +10,6 @@ mod failures;
 #[cfg(test)]
 mod refusals;
 #[cfg(test)]
+mod trees;
+#[cfg(test)]
 mod world;
