@@ -61,7 +61,8 @@ fn told(alloc: Global, document: &str) -> Result<(u8, String), Fail> {
     match tree.check_targets() {
         Ok(()) => Ok((0, String::new(alloc))),
         Err(found) => {
-            let path = String::from_str(alloc, tree.path_of(found.at))?;
+            let at = tree.id(found.at.number()).ok_or("a construct")?;
+            let path = String::from_str(alloc, tree.path_of(at))?;
             Ok((found.code.number(), path))
         }
     }
