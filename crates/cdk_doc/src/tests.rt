@@ -1,6 +1,7 @@
 use crate::{application_of, expression_of, read_app, with_settings};
 use cdk_base::{Code, Fault, Setting, Text, Value};
 use cdk_language::{Expr, Kind};
+use std::alloc::Global;
 use std::test::Fail;
 
 const APP: &[u8] =
@@ -18,20 +19,22 @@ fn reads_an_application(rt: HostRuntime) -> Result<(), Fail> {
     Ok(())
 }
 
+// The fault of a document, with its place.
+fn told(alloc: Global, text: &[u8]) -> Option<(Code, Text)> {
+    match read_app(alloc, text) {
+        Err(Fault::App { code, place }) => Some((code, place)),
+        _ => None,
+    }
+}
+
 #[test]
 fn tells_the_first_fault(rt: HostRuntime) -> Result<(), Fail> {
     let text = b"{\"app\":\"1\",\"children\":[{\"kind\":\"group\",\"id\":7}]}";
-    match read_app(rt.alloc(), text) {
-        Err(Fault::App { code, place }) => {
-            assert_eq!(rt; code, Code::Shape);
-            assert_eq!(rt; place.as_str(), "/children/0");
-        }
-        _ => return Err("a fault".into()),
-    }
-    match read_app(rt.alloc(), b"{") {
-        Err(fault) => assert_eq!(rt; fault.code(), 2),
-        Ok(_) => return Err("no JSON".into()),
-    }
+    let (code, place) = told(rt.alloc(), text).ok_or("a fault")?;
+    assert_eq!(rt; code, Code::Shape);
+    assert_eq!(rt; place.as_str(), "/children/0");
+    let (code, _place) = told(rt.alloc(), b"{").ok_or("no JSON")?;
+    assert_eq!(rt; code, Code::NotJson);
     Ok(())
 }
 
