@@ -1,6 +1,7 @@
 // The first fault of small documents: each member of each kind missing, of a wrong kind, and unknown; forms of expressions.
 use cdk_base::Fault;
 use cdk_doc::read_app;
+use std::alloc::Global;
 use std::test::Fail;
 
 // The number of the fault (0 where there is none), `=` and its place, and the document.
@@ -129,6 +130,18 @@ fn fifth_rows() -> &'static str {
 3 =/children/0/children/0/expression/Fn::Not/0 {\"app\":\"1\",\"children\":[{\"kind\":\"stack\",\"id\":\"S\",\"children\":[{\"kind\":\"condition\",\"id\":\"C\",\"expression\":{\"Fn::Not\":[\"x\"]}}]}]}\n"
 }
 
+/// The number of the fault of a document and its place: 0 and an empty place of one with none.
+fn told(alloc: Global, document: &str) -> Result<(u8, String), Fail> {
+    match read_app(alloc, document.as_bytes()) {
+        Ok(_) => Ok((0, String::new(alloc))),
+        Err(Fault::App { code, place }) => {
+            let path = String::from_str(alloc, place.as_str())?;
+            Ok((code.number(), path))
+        }
+        Err(_) => Err(Fail::from("memory")),
+    }
+}
+
 #[test]
 fn first_faults(rt: HostRuntime) -> Result<(), Fail> {
     let alloc = rt.alloc();
@@ -142,15 +155,10 @@ fn first_faults(rt: HostRuntime) -> Result<(), Fail> {
         for row in rows.lines() {
             let (number, rest) = row.split_once(' ').ok_or("number")?;
             let (place, document) = rest.split_once(' ').ok_or("place")?;
-            match read_app(alloc, document.as_bytes()) {
-                Ok(_) => assert!(rt; number == "0", "{row}"),
-                Err(Fault::App { code, place: told }) => {
-                    let told_number = code.number().to_string(alloc)?;
-                    assert!(rt; told_number.as_str() == number, "{row}");
-                    assert!(rt; place.strip_prefix('=') == Some(told.as_str()), "{row}");
-                }
-                Err(_) => assert!(rt; false, "{row}"),
-            }
+            let (code, path) = told(alloc, document)?;
+            let code = code.to_string(alloc)?;
+            assert!(rt; code.as_str() == number, "{row}");
+            assert!(rt; place.strip_prefix('=') == Some(path.as_str()), "{row}");
         }
     }
     Ok(())
