@@ -10,27 +10,27 @@ use Rattle.serde_json.specs.Data.{Data, null, boolean, number, string, array, ob
 use Rattle.serde_json.specs.Find.{get_member}
 use Rattle.cdk_eval.specs.declared.fault.EvalFault.TheVariants.{BadIntrinsic, ConditionLoop}
 use Rattle.cdk_eval.specs.Outcomes.{Outcome, Truth, Untold}
-use Rattle.cdk_eval.specs.Reach.{is_among, comes_to}
+use Rattle.cdk_eval.specs.Reach.{is_among, comes_to, IsIn}
 use Rattle.cdk_eval.specs.Conditions.{is_few, all_hold, few_form, not_form, name_form, equals_form, truth_of, single_truth, part_truths, item_truths, one_name, item_count, has_items, is_one, names_in, single_names, part_names, item_names, names_of, count, is_loop, found_truth, truth_within, BoundSuffices, LoopsAreFound, NamesAreOpened}
-use Rattle.cdk_eval.proofs.Reach.{IsIn, in_front, in_back, in_when_among, bytes_same, IsPath, path_returns}
+use Rattle.cdk_eval.proofs.Reach.{in_front, in_back, in_when_among, bytes_same, IsPath, path_returns}
 use Rattle.cdk_eval.proofs.Unseen.{unseen, unseen_all, unseen_less}
 use Rattle.cdk_eval.proofs.Found.{found_within}
 
 -- ---- a form has one truth under two truths of names that are alike at its own names
 
-abbrev AreAlike : (List ℕ → Truth) → (List ℕ → Truth) → List (List ℕ) → Type 0
+abbrev pub AreAlike : (List ℕ → Truth) → (List ℕ → Truth) → List (List ℕ) → Type 0
 AreAlike f g ns = (n : List ℕ) → IsIn n ns → f n ≡ g n
 
 module _ (op : Data → Outcome) where
-  truth_count : (f : List ℕ → Truth) (ds : Items) → length (item_truths op f ds) ≡ item_count ds
+  pub truth_count : (f : List ℕ → Truth) (ds : Items) → length (item_truths op f ds) ≡ item_count ds
   truth_count f no_items = refl
   truth_count f (item d ds) = ap suc (truth_count f ds)
 
-  few_other : (f : List ℕ → Truth) (φ : Bool → Bool → Bool) (u : Bool) (d : Data) → has_items is_few d ≡ false → few_form φ u (part_truths op f d) ≡ Untold BadIntrinsic
+  pub few_other : (f : List ℕ → Truth) (φ : Bool → Bool → Bool) (u : Bool) (d : Data) → has_items is_few d ≡ false → few_form φ u (part_truths op f d) ≡ Untold BadIntrinsic
   few_other f φ u (array ds) h = ap (λ b. if b then all_hold φ u (item_truths op f ds) else Untold BadIntrinsic) (ap is_few (truth_count f ds) ∙ h)
   few_other f φ u _ h = refl
 
-  not_other : (f : List ℕ → Truth) (d : Data) → has_items is_one d ≡ false → not_form (part_truths op f d) ≡ Untold BadIntrinsic
+  pub not_other : (f : List ℕ → Truth) (d : Data) → has_items is_one d ≡ false → not_form (part_truths op f d) ≡ Untold BadIntrinsic
   not_other f (array no_items) h = refl
   not_other f (array (item d no_items)) h = cc
   not_other f (array (item d (item e ds))) h = refl
@@ -64,7 +64,7 @@ module _ (op : Data → Outcome) (f g : List ℕ → Truth) where
   form_same false false false false false d parts h = refl
 
   mutual
-    truth_same : (d : Data) → AreAlike f g (names_in d) → truth_of op f d ≡ truth_of op g d
+    pub truth_same : (d : Data) → AreAlike f g (names_in d) → truth_of op f d ≡ truth_of op g d
     truth_same null h = refl
     truth_same (boolean b) h = refl
     truth_same (number n) h = refl

@@ -2,8 +2,8 @@
 use Rattle.std.proofs.Common.{◌≡◌, ℕ, zero, suc, ◌≤◌, List, [], ◌∷◌, length, Bool, true, false, refl, sym, ap, ◌∙◌, inl, inr, arith}
 use Rattle.std.specs.Prelude.{◌⊎◌, ◌||◌, bytes_eq, if◌then◌else◌}
 use Rattle.std.specs.List.{list_any}
-use Rattle.cdk_eval.specs.Reach.{comes_to}
-use Rattle.cdk_eval.proofs.Reach.{IsIn, any_more, or_more, comes_within}
+use Rattle.cdk_eval.specs.Reach.{comes_to, IsIn}
+use Rattle.cdk_eval.proofs.Reach.{any_more, or_more, comes_within}
 
 either_way : (a b : ℕ) → (a ≤ b) ⊎ (suc b ≤ a)
 either_way zero b = inl (omega arith)

@@ -3,9 +3,9 @@ use Rattle.std.proofs.Common.{◌≡◌, ℕ, zero, suc, ◌+◌, ◌≤◌, Lis
 use Rattle.std.specs.Prelude.{◌⊎◌, ◌&&◌, ◌||◌, bytes_eq, codes, if◌then◌else◌, option_map}
 use Rattle.std.specs.List.{list_all}
 use Rattle.serde_json.specs.Data.{Data, Members, no_members, member}
-use Rattle.cdk_eval.specs.Reach.{is_among, comes_to}
+use Rattle.cdk_eval.specs.Reach.{is_among, comes_to, IsIn}
 use Rattle.cdk_eval.specs.Manifest.{StackArtifact, artifacts, is_type, stack_ids, stack_at, stack_artifacts, stacks_of, named_in, dependencies_of, comes_back, cyclic, is_ready, first_then, placed, in_order, ids, AreApart, CyclesAreFound, StandAfter, OrderKeepsDependencies, OrderIsWhole}
-use Rattle.cdk_eval.proofs.Reach.{IsIn, any_in, in_when_among, same_bytes, bytes_same, IsPath, path_returns}
+use Rattle.cdk_eval.proofs.Reach.{any_in, in_when_among, same_bytes, bytes_same, IsPath, path_returns}
 use Rattle.cdk_eval.proofs.Unseen.{unseen, unseen_all, unseen_less}
 use Rattle.cdk_eval.proofs.Found.{found_within}
 

@@ -3,17 +3,13 @@ use Rattle.std.proofs.Common.{◌≡◌, ℕ, zero, suc, ◌+◌, ◌≤◌, Lis
 use Rattle.std.specs.Prelude.{◌⊎◌, ◌||◌, bytes_eq, ⊤}
 use Rattle.std.specs.List.{list_any}
 use Rattle.std.proofs.lemmas.Slice.Eq.{bytes_eq-Decides}
-use Rattle.cdk_eval.specs.Reach.{is_among, comes_to}
+use Rattle.cdk_eval.specs.Reach.{is_among, IsIn, comes_to}
 
 pub bytes_same : (k l : List ℕ) → bytes_eq k l ≡ true → k ≡ l
 bytes_same k l h = search (rules, bytes_eq-Decides)
 
 pub same_bytes : (k : List ℕ) → bytes_eq k k ≡ true
 same_bytes k = (bytes_eq-Decides k k).1 refl
-
-abbrev pub IsIn : List ℕ → List (List ℕ) → Type 0
-IsIn n [] = ⊥
-IsIn n (m ∷ ms) = (m ≡ n) ⊎ IsIn n ms
 
 pub in_front : (n : List ℕ) (xs ys : List (List ℕ)) → IsIn n xs → IsIn n (xs ++ ys)
 in_front n [] ys h = absurd h

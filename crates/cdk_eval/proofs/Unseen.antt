@@ -1,8 +1,8 @@
 -- The names that a way by names has not yet come to.
 use Rattle.std.proofs.Common.{◌≡◌, ℕ, suc, ◌≤◌, List, [], ◌∷◌, length, Bool, true, false, refl, sym, ap, ◌∙◌, inl, inr, arith}
 use Rattle.std.specs.Prelude.{◌||◌, bytes_eq, if◌then◌else◌}
-use Rattle.cdk_eval.specs.Reach.{is_among}
-use Rattle.cdk_eval.proofs.Reach.{IsIn, same_bytes}
+use Rattle.cdk_eval.specs.Reach.{is_among, IsIn}
+use Rattle.cdk_eval.proofs.Reach.{same_bytes}
 
 abbrev one_if_not : Bool → ℕ → ℕ
 one_if_not b n = if b then n else suc n

@@ -13,3 +13,4 @@ pub mod Template
 pub mod Texts
 pub mod Values
 pub mod ValuesFile
+pub mod Views
