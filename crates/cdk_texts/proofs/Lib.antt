@@ -1,0 +1,3 @@
+mod FirstPlace
+pub mod Cutting
+mod Holes
