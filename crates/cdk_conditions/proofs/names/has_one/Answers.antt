@@ -1,0 +1,10 @@
+use Rattle.std.proofs.Common.{length, sym, ap, ◌∙◌}
+use Rattle.serde_json.specs.View.{view}
+use Rattle.serde_json.proofs.Views.{view-Array}
+use Rattle.cdk_eval.specs.Conditions.{has_items, is_one}
+use Rattle.cdk_conditions.proofs.Counts.{count_items}
+use Rattle.cdk_conditions.proofs.names.has_one.Goals as goal
+
+pub returns-in-Array : goal.returns-in-Array
+returns-in-Array c =
+    c.is_one.ensures ∙ ap (λ xs. is_one (length xs)) c.as_slice.ensures.value ∙ ap is_one (sym (count_items c.in-Array.items.items)) ∙ sym (ap (has_items is_one) (ap view c.in-Array.is ∙ view-Array c.in-Array.items))
