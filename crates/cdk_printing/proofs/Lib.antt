@@ -1,0 +1,3 @@
+pub mod Assembly
+mod Examples
+pub mod Floatless

@@ -1,0 +1,12 @@
+//! The lines that are printed of what an assembly comes to.
+#![tactic(auto)]
+
+mod faults;
+mod laws;
+mod lines;
+#[cfg(test)]
+mod tests;
+
+pub use faults::has_fault;
+pub use laws::outcomes_are_printable;
+pub use lines::report_text;
