@@ -1,3 +1,4 @@
 pub mod Assembly
 mod Examples
+pub mod Feeds
 pub mod Floatless

@@ -1,2 +1,3 @@
+pub mod Count
 pub mod Lines
 pub mod Printable

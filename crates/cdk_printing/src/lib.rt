@@ -8,5 +8,5 @@ mod lines;
 mod tests;
 
 pub use faults::has_fault;
-pub use laws::outcomes_are_printable;
+pub use laws::{no_line_is_forged, outcomes_are_printable};
 pub use lines::report_text;
