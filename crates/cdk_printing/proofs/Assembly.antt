@@ -79,5 +79,5 @@ module _ (v : Values) where
       (of_resources (presence v s.name s.template) (stack_scope v exports s) (scope-floatless s.name s.template exports) (section (codes "Resources") s.template), of_stacks (exports_after v exports s) ss)
 
 -- also for proofs of what prints the report of an evaluation
-pub outcomes-printable : (v : Values) (ss : List Stack) → IsPrintable (assembly_outcome v ss)
-outcomes-printable v ss = of_stacks v (outside_exports v ss) ss
+pub outcomes_printable : (v : Values) (ss : List Stack) → IsPrintable (assembly_outcome v ss)
+outcomes_printable v ss = of_stacks v (outside_exports v ss) ss

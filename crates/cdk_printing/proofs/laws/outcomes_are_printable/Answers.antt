@@ -1,5 +1,5 @@
-use Rattle.cdk_printing.proofs.Assembly.{outcomes-printable}
+use Rattle.cdk_printing.proofs.Assembly.{outcomes_printable}
 use Rattle.cdk_printing.proofs.laws.outcomes_are_printable.Goals as goal
 
 pub returns : goal.returns
-returns c v ss = outcomes-printable v ss
+returns c v ss = outcomes_printable v ss
