@@ -37,6 +37,14 @@ attribute_across_stacks : Prints
 unfolding serde_json_on_literals digits is_utf8 chars encode_utf8
 attribute_across_stacks = (refl, refl)
 
+list_across_stacks : Prints
+    (("A", "{\"Parameters\":{\"P\":{\"Type\":\"CommaDelimitedList\",\"Default\":\"a, b\"}},\"Outputs\":{\"ExportsOutputRefPB8E10312\":{\"Value\":{\"Fn::Join\":[\"||\",{\"Ref\":\"P\"}]},\"Export\":{\"Name\":\"E\"}}}}") ∷ ("B", "{\"Resources\":{\"R\":{\"Type\":\"Own::T\",\"Properties\":{\"L\":{\"Fn::Split\":[\"||\",{\"Fn::ImportValue\":\"E\"}]}}}}}") ∷ [])
+    "{}"
+    "stack A\noutput ExportsOutputRefPB8E10312 = \"a||b\"\nstack B\nresource R\n  \"L\" = [\"a\",\"b\"]\n"
+    false
+unfolding serde_json_on_literals digits is_utf8 chars encode_utf8
+list_across_stacks = (refl, refl)
+
 list_with_a_bar : Prints
     (("A", "{\"Parameters\":{\"P\":{\"Type\":\"CommaDelimitedList\",\"Default\":\"a, b\"}},\"Outputs\":{\"ExportsOutputRefPB8E10312\":{\"Value\":{\"Fn::Join\":[\"||\",{\"Ref\":\"P\"}]},\"Export\":{\"Name\":\"E\"}}}}") ∷ ("B", "{\"Resources\":{\"R\":{\"Type\":\"Own::T\",\"Properties\":{\"L\":{\"Fn::Split\":[\"||\",{\"Fn::ImportValue\":\"E\"}]}}}}}") ∷ [])
     "{\"parameters\":{\"A\":{\"P\":\"x|,y\"}}}"
@@ -77,13 +85,30 @@ three_faults : Prints
 unfolding serde_json_on_literals digits is_utf8 chars encode_utf8
 three_faults = (refl, refl)
 
-unknown_names : Prints
-    (("S", "{\"Resources\":{\"Q\":{\"Type\":\"T\",\"Properties\":{\"P\":{\"Fn::Sub\":\"${\"}}},\"R\":{\"Type\":\"T\",\"Properties\":{\"P\":{\"Fn::Sub\":\"${X}\"}}}}}") ∷ [])
+unknown_name : Prints
+    (("S", "{\"Resources\":{\"R\":{\"Type\":\"T\",\"Properties\":{\"P\":{\"Fn::Sub\":\"${X}\"}}}}}") ∷ [])
     "{}"
-    "stack S\nresource Q\n  \"P\" ! BadIntrinsic\nresource R\n  \"P\" ! UnknownName\n"
+    "stack S\nresource R\n  \"P\" ! UnknownName\n"
     true
 unfolding serde_json_on_literals digits is_utf8 chars encode_utf8
-unknown_names = (refl, refl)
+unknown_name = (refl, refl)
+
+sub_without_a_brace : Prints
+    (("S", "{\"Resources\":{\"R\":{\"Type\":\"T\",\"Properties\":{\"P\":{\"Fn::Sub\":\"${\"}}}}}") ∷ [])
+    "{}"
+    "stack S\nresource R\n  \"P\" ! BadIntrinsic\n"
+    true
+unfolding serde_json_on_literals digits is_utf8 chars encode_utf8
+sub_without_a_brace = (refl, refl)
+
+-- a resource without properties, made by conditions of which one names another twice
+doubled_condition : Prints
+    (("S", "{\"Conditions\":{\"C0\":{\"Fn::And\":[{\"Condition\":\"C1\"},{\"Condition\":\"C1\"}]},\"C1\":{\"Fn::Equals\":[\"a\",\"a\"]}},\"Resources\":{\"R\":{\"Type\":\"T\",\"Condition\":\"C0\"}}}") ∷ [])
+    "{}"
+    "stack S\nresource R\n"
+    false
+unfolding serde_json_on_literals digits is_utf8 chars encode_utf8
+doubled_condition = (refl, refl)
 
 -- a fault of an output alone
 output_fault : Prints
