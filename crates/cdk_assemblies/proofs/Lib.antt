@@ -1,3 +1,4 @@
 pub mod Documents
+pub mod Nesting
 pub mod Readings
 pub mod Steps

@@ -78,6 +78,7 @@ fn directories_of<'m>(alloc: Global, manifest: &'m Value) -> Result<Vec<&'m str>
 }
 
 // The assemblies of these directories are read, each with so many levels below it.
+#[cycle(levels)]
 fn read_nested<F: Files>(
     alloc: Global,
     files: &mut F,
@@ -105,6 +106,7 @@ fn read_nested<F: Files>(
 }
 
 /// An assembly is read with at most so many levels of nested ones, and its stacks are put behind those that are read.
+#[cycle(levels)]
 pub fn read_level<F: Files>(
     alloc: Global,
     files: &mut F,
