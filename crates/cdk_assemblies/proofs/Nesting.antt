@@ -9,7 +9,7 @@ use Rattle.cdk_eval.specs.declared.role.Role.TheVariants.{Manifest}
 use Rattle.cdk_eval.specs.Manifest.{artifacts, nested_directories}
 use Rattle.cdk_eval.specs.Reading.{FileFault, ok_then, path_in}
 use Rattle.cdk_eval.specs.Stack.{Stack}
-use Rattle.cdk_assemblies.specs.Answers.{Files, Fails, document_in, onto, each_onto, assembly_in, nested_in, ordered_onto, own_onto}
+use Rattle.cdk_assemblies.specs.Answers.{Files, Fails, Reads, document_in, onto, each_onto, assembly_in, nested_in, ordered_onto, own_onto}
 use Rattle.cdk_assemblies.proofs.Readings.{document_stable, own_stable, level_more, level_last}
 use Rattle.cdk_assemblies.proofs.Steps.{fails_same, gives_same, fails_first, fails_next, gives_next}
 
@@ -79,7 +79,7 @@ last_level c zero may_nest dir before now manifest none left h =
   stacks_alone (Some m) r manifest now h = ap (λ o. ok_then o (λ p. Ok p.1)) h
 last_level c (suc levels) may_nest dir before now manifest none left h = absurd (omega arith)
 
-pub level_without_nested : (e : AsmError) (c d : Contents) (levels : ℕ) (may_nest : Bool) (dir : List ℕ) (before now : List Stack) (manifest : Data) (names : List (List ℕ)) → 0 < levels → may_nest ≡ nat_lt 0 levels → IfSome c (λ m. own_onto may_nest dir before m ≡ Ok (manifest, now)) → d ≡ c → names ≡ nested_directories (artifacts manifest) → IfSome d (Fails e (each_onto (nested_in (levels - 1) dir) now names)) → IfSome c (Fails e (λ m. onto before (assembly_in levels dir m)))
+level_without_nested : (e : AsmError) (c d : Contents) (levels : ℕ) (may_nest : Bool) (dir : List ℕ) (before now : List Stack) (manifest : Data) (names : List (List ℕ)) → 0 < levels → may_nest ≡ nat_lt 0 levels → IfSome c (λ m. own_onto may_nest dir before m ≡ Ok (manifest, now)) → d ≡ c → names ≡ nested_directories (artifacts manifest) → IfSome d (Fails e (each_onto (nested_in (levels - 1) dir) now names)) → IfSome c (Fails e (λ m. onto before (assembly_in levels dir m)))
 level_without_nested e c d zero may_nest dir before now manifest names some left done same named h = absurd (omega arith)
 level_without_nested e c d (suc levels) may_nest dir before now manifest names some left done same named h =
     let P : Bool → Type 0 = λ b. IfSome c (λ m. own_onto b dir before m ≡ Ok (manifest, now)) in
@@ -88,7 +88,7 @@ level_without_nested e c d (suc levels) may_nest dir before now manifest names s
     let S : ℕ → Type 0 = λ n. IfSome c (Fails e (each_onto (nested_in n dir) now (nested_directories (artifacts manifest)))) in
     fails_same e c (whole (suc levels) dir before) (λ m. ok_then (own_onto true dir before m) (λ p. below levels dir p m)) (level_more levels dir before) (fails_next (manifest, now) e c (own_onto true dir before) (below levels dir) (own_stable true dir before) (subst P (left ∙ some_left levels) done) (subst S (less_one levels) (subst R named (subst Q same h))))
 
-pub level_read : (c d : Contents) (levels : ℕ) (may_nest : Bool) (dir : List ℕ) (before now next : List Stack) (manifest : Data) (names : List (List ℕ)) → 0 < levels → may_nest ≡ nat_lt 0 levels → IfSome c (λ m. own_onto may_nest dir before m ≡ Ok (manifest, now)) → d ≡ c → names ≡ nested_directories (artifacts manifest) → IfSome d (λ m. each_onto (nested_in (levels - 1) dir) now names m ≡ Ok next) → IfSome c (λ m. onto before (assembly_in levels dir m) ≡ Ok next)
+level_read : (c d : Contents) (levels : ℕ) (may_nest : Bool) (dir : List ℕ) (before now next : List Stack) (manifest : Data) (names : List (List ℕ)) → 0 < levels → may_nest ≡ nat_lt 0 levels → IfSome c (λ m. own_onto may_nest dir before m ≡ Ok (manifest, now)) → d ≡ c → names ≡ nested_directories (artifacts manifest) → IfSome d (λ m. each_onto (nested_in (levels - 1) dir) now names m ≡ Ok next) → IfSome c (λ m. onto before (assembly_in levels dir m) ≡ Ok next)
 level_read c d zero may_nest dir before now next manifest names some left done same named h = absurd (omega arith)
 level_read c d (suc levels) may_nest dir before now next manifest names some left done same named h =
     let P : Bool → Type 0 = λ b. IfSome c (λ m. own_onto b dir before m ≡ Ok (manifest, now)) in
@@ -96,3 +96,10 @@ level_read c d (suc levels) may_nest dir before now next manifest names some lef
     let R : List (List ℕ) → Type 0 = λ ns. IfSome c (λ m. each_onto (nested_in (suc levels - 1) dir) now ns m ≡ Ok next) in
     let S : ℕ → Type 0 = λ n. IfSome c (λ m. each_onto (nested_in n dir) now (nested_directories (artifacts manifest)) m ≡ Ok next) in
     gives_same next c (whole (suc levels) dir before) (λ m. ok_then (own_onto true dir before m) (λ p. below levels dir p m)) (level_more levels dir before) (gives_next (manifest, now) next c (own_onto true dir before) (below levels dir) (subst P (left ∙ some_left levels) done) (subst S (less_one levels) (subst R named (subst Q same h))))
+
+-- a level that has more below it answers what its nested assemblies answer
+pub level_goes_on : {T : Type 0} (shown : T → List Stack) (r : Result T AsmError) (c d : Contents) (levels : ℕ) (may_nest : Bool) (dir : List ℕ) (before now : List Stack) (manifest : Data) (names : List (List ℕ)) → 0 < levels → may_nest ≡ nat_lt 0 levels → IfSome c (λ m. own_onto may_nest dir before m ≡ Ok (manifest, now)) → d ≡ c → names ≡ nested_directories (artifacts manifest) → Reads shown r d (each_onto (nested_in (levels - 1) dir) now names) → Reads shown r c (λ m. onto before (assembly_in levels dir m))
+level_goes_on shown (Ok t) c d levels may_nest dir before now manifest names some left done same named h =
+    level_read c d levels may_nest dir before now (shown t) manifest names some left done same named h
+level_goes_on shown (Err e) c d levels may_nest dir before now manifest names some left done same named h =
+    level_without_nested e c d levels may_nest dir before now manifest names some left done same named h
