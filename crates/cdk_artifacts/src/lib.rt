@@ -2,8 +2,13 @@
 #![tactic(auto)]
 
 mod artifacts;
+mod cycle;
+mod dependents;
 mod directories;
 mod name_set;
+mod order;
+mod queue;
 mod stacks;
 
 pub use directories::nested_directories;
+pub use order::{Order, StackFile, stacks_in_order};
