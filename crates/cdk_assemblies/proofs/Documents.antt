@@ -1,8 +1,7 @@
 -- What a read that gave no bytes says of the document.
-use Rattle.std.proofs.Common.{◌≡◌, ℕ, ◌<◌, List, length, Bool, true, false, nat_le, Option, Some, None, IfSome, Result, Ok, Err, cond, refl, sym, ap, ◌∙◌, subst, arith}
+use Rattle.std.proofs.Common.{◌≡◌, ℕ, ◌<◌, List, length, false, nat_le, Some, None, IfSome, Err, cond, refl, sym, ap, ◌∙◌, subst, arith}
 use Rattle.std.proofs.lemmas.Bool.Decides.{nat_tests}
 use Rattle.std.specs.FinMap.{get, remove}
-use Rattle.serde_json.specs.Data.{Data}
 use Rattle.cdk_base.specs.Json.{parsed}
 use Rattle.cdk_outside.specs.declared.traits.ReadError.{ReadError}
 use Rattle.cdk_outside.specs.declared.traits.ReadError.TheVariants as read_errors
@@ -10,7 +9,7 @@ use Rattle.cdk_outside.specs.Outside.{Contents, HoldsOver}
 use Rattle.cdk_eval.specs.declared.assembly.AsmError.{AsmError}
 use Rattle.cdk_eval.specs.declared.assembly.AsmError.TheVariants as refusals
 use Rattle.cdk_eval.specs.declared.role.Role.{Role}
-use Rattle.cdk_eval.specs.Reading.{Absent, TooLong, Misread, in_form, at_file, contents}
+use Rattle.cdk_eval.specs.Reading.{Absent, TooLong, in_form, at_file, contents}
 use Rattle.cdk_assemblies.specs.Answers.{Files, most_bytes, fault, Fails, Refuses, document_in}
 use Rattle.cdk_assemblies.proofs.Readings.{document_absent}
 

@@ -1,5 +1,5 @@
 -- What a manifest, its own stacks and what is nested say of an assembly.
-use Rattle.std.proofs.Common.{◌≡◌, ℕ, zero, suc, ◌-◌, ◌<◌, List, Bool, true, false, nat_lt, Option, Some, None, IfSome, Result, Ok, Err, refl, sym, ap, ◌∙◌, subst, arith}
+use Rattle.std.proofs.Common.{◌≡◌, ℕ, zero, suc, ◌-◌, ◌<◌, List, [], Bool, true, false, nat_lt, Some, None, IfSome, Result, Ok, Err, refl, ap, ◌∙◌, subst, arith}
 use Rattle.std.specs.Prelude.{codes}
 use Rattle.std.proofs.lemmas.Bool.Decides.{nat_tests}
 use Rattle.serde_json.specs.Data.{Data}
@@ -42,10 +42,10 @@ own_read c d may_nest dir path again before now manifest at at_again done same h
     let Q : List ℕ → Type 0 = λ p. IfSome d (λ m. ordered_onto dir p manifest before m ≡ Ok now) in
     let R : Contents → Type 0 = λ o. IfSome o (λ m. ordered_onto dir (manifest_path dir) manifest before m ≡ Ok now) in
     gives_next {B = Own} manifest (manifest, now) c (document_in (Manifest may_nest) (manifest_path dir)) (then_own dir before) (subst P at done) (with_manifest c (ordered_onto dir (manifest_path dir) manifest before) manifest now (subst R same (subst Q at_again h)))
- where
-  with_manifest : (c : Contents) (r : Files → Result (List Stack) FileFault) (manifest : Data) (now : List Stack) → IfSome c (λ m. r m ≡ Ok now) → IfSome c (λ m. ok_then {B = Data × List Stack} (r m) (λ ss. Ok (manifest, ss)) ≡ Ok (manifest, now))
-  with_manifest None r manifest now h = h
-  with_manifest (Some m) r manifest now h = ap (λ o. ok_then {B = Data × List Stack} o (λ ss. Ok (manifest, ss))) h
+  where
+    with_manifest : (c : Contents) (r : Files → Result (List Stack) FileFault) (manifest : Data) (now : List Stack) → IfSome c (λ m. r m ≡ Ok now) → IfSome c (λ m. ok_then {B = Data × List Stack} (r m) (λ ss. Ok (manifest, ss)) ≡ Ok (manifest, now))
+    with_manifest None r manifest now h = h
+    with_manifest (Some m) r manifest now h = ap (λ o. ok_then {B = Data × List Stack} o (λ ss. Ok (manifest, ss))) h
 
 -- ---- the levels
 
@@ -73,10 +73,10 @@ pub last_level : (c : Contents) (levels : ℕ) (may_nest : Bool) (dir : List ℕ
 last_level c zero may_nest dir before now manifest none left h =
     let P : Bool → Type 0 = λ b. IfSome c (λ m. own_onto b dir before m ≡ Ok (manifest, now)) in
     gives_same now c (whole zero dir before) (λ m. ok_then (own_onto false dir before m) (λ p. Ok p.1)) (level_last dir before) (stacks_alone c (own_onto false dir before) manifest now (subst P left h))
- where
-  stacks_alone : (c : Contents) (r : Files → Result (Data × List Stack) FileFault) (manifest : Data) (now : List Stack) → IfSome c (λ m. r m ≡ Ok (manifest, now)) → IfSome c (λ m. ok_then (r m) (λ p. Ok p.1) ≡ Ok now)
-  stacks_alone None r manifest now h = h
-  stacks_alone (Some m) r manifest now h = ap (λ o. ok_then o (λ p. Ok p.1)) h
+  where
+    stacks_alone : (c : Contents) (r : Files → Result (Data × List Stack) FileFault) (manifest : Data) (now : List Stack) → IfSome c (λ m. r m ≡ Ok (manifest, now)) → IfSome c (λ m. ok_then (r m) (λ p. Ok p.1) ≡ Ok now)
+    stacks_alone None r manifest now h = h
+    stacks_alone (Some m) r manifest now h = ap (λ o. ok_then o (λ p. Ok p.1)) h
 last_level c (suc levels) may_nest dir before now manifest none left h = absurd (omega arith)
 
 level_without_nested : (e : AsmError) (c d : Contents) (levels : ℕ) (may_nest : Bool) (dir : List ℕ) (before now : List Stack) (manifest : Data) (names : List (List ℕ)) → 0 < levels → may_nest ≡ nat_lt 0 levels → IfSome c (λ m. own_onto may_nest dir before m ≡ Ok (manifest, now)) → d ≡ c → names ≡ nested_directories (artifacts manifest) → IfSome d (Fails e (each_onto (nested_in (levels - 1) dir) now names)) → IfSome c (Fails e (λ m. onto before (assembly_in levels dir m)))
@@ -103,3 +103,15 @@ level_goes_on shown (Ok t) c d levels may_nest dir before now manifest names som
     level_read c d levels may_nest dir before now (shown t) manifest names some left done same named h
 level_goes_on shown (Err e) c d levels may_nest dir before now manifest names some left done same named h =
     level_without_nested e c d levels may_nest dir before now manifest names some left done same named h
+
+-- ---- the whole
+
+onto_none : (r : Result (List Stack) FileFault) → r ≡ onto [] r
+onto_none (Ok ss) = refl
+onto_none (Err e) = refl
+
+-- the number of levels is a variable here, so that none is opened
+pub whole_fails : (e : AsmError) (c : Contents) (levels : ℕ) (dir : List ℕ) (before : List Stack) → before ≡ [] → IfSome c (Fails e (λ m. onto before (assembly_in levels dir m))) → IfSome c (Fails e (assembly_in levels dir))
+whole_fails e c levels dir before none h =
+    let P : List Stack → Type 0 = λ ss. IfSome c (Fails e (whole levels dir ss)) in
+    fails_same e c (assembly_in levels dir) (whole levels dir []) (λ m. onto_none (assembly_in levels dir m)) (subst P none h)

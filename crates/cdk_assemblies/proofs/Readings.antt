@@ -1,6 +1,6 @@
 -- What is known of every reading: with a file taken out it answers as before, or finds that file absent. So one that reads
 -- on after another says of the whole what it says of its own part.
-use Rattle.std.proofs.Common.{◌≡◌, ◌⊎◌, inl, inr, ℕ, zero, suc, List, [], ◌∷◌, ◌++◌, Bool, true, false, Option, Some, None, Result, Ok, Err, IfSome, cond, refl, sym, ap, ◌∙◌, subst, append_assoc, map}
+use Rattle.std.proofs.Common.{◌≡◌, ◌⊎◌, inl, inr, ℕ, zero, suc, List, [], ◌∷◌, ◌++◌, Bool, true, false, Option, Some, None, Result, Ok, Err, cond, refl, sym, ap, ◌∙◌, subst, append_assoc, map}
 use Rattle.std.specs.Prelude.{codes}
 use Rattle.std.proofs.lemmas.List.{append-nil}
 use Rattle.std.specs.Str.{bytes_eq}
@@ -10,13 +10,10 @@ use Rattle.std.proofs.lemmas.Cmp.{nat_list_cmp_total}
 use Rattle.std.proofs.lemmas.Slice.Eq.{bytes_eq-Decides}
 use Rattle.serde_json.specs.Data.{Data}
 use Rattle.cdk_artifacts.specs.Order.{file_of}
-use Rattle.cdk_outside.specs.Outside.{Contents}
-use Rattle.cdk_eval.specs.declared.assembly.AsmError.{AsmError}
-use Rattle.cdk_eval.specs.declared.assembly.AsmError.TheVariants as refusals
 use Rattle.cdk_eval.specs.declared.role.Role.{Role}
 use Rattle.cdk_eval.specs.declared.role.Role.TheVariants.{Manifest, Template}
 use Rattle.cdk_eval.specs.Manifest.{StackArtifact, artifacts, nested_directories, stacks_of, cyclic, in_order}
-use Rattle.cdk_eval.specs.Reading.{Misread, Absent, FileFault, ok_then, collected, at_file, contents, path_in, no_cycle, stack_in, manifest_in, assembly_with, assembly_at}
+use Rattle.cdk_eval.specs.Reading.{Absent, FileFault, ok_then, collected, at_file, contents, path_in, no_cycle, stack_in, manifest_in, assembly_with, assembly_at}
 use Rattle.cdk_eval.specs.Stack.{Stack}
 use Rattle.cdk_assemblies.specs.Answers.{Files, most_bytes, fault, document_in, stack_at, files_in_order, onto, each_onto, assembly_in, nested_in, order_at, ordered_onto, own_onto}
 
@@ -52,11 +49,11 @@ pub then_stable : {A B : Type 0} (first : Files → Result A FileFault) (next : 
 then_stable first next one two = λ m file. elim (one m file) [
   | inl same ↦ let P : Result _ FileFault → Type 0 = λ r. (ok_then r (λ a. next a (remove m file)) ≡ ok_then (first m) (λ a. next a m)) ⊎ (ok_then r (λ a. next a (remove m file)) ≡ Err (fault file Absent)) in subst P (sym same) (second next two (first m) m file)
   | inr gone ↦ inr (ap (λ r. ok_then r (λ a. next a (remove m file))) gone)
-  ]
- where
-  second : {A B : Type 0} (next : A → Files → Result B FileFault) → ((a : A) → IsStable (next a)) → (r : Result A FileFault) (m : Files) (file : List ℕ) → (ok_then r (λ a. next a (remove m file)) ≡ ok_then r (λ a. next a m)) ⊎ (ok_then r (λ a. next a (remove m file)) ≡ Err (fault file Absent))
-  second next two (Ok a) m file = two a m file
-  second next two (Err e) m file = inl refl
+]
+  where
+    second : {A B : Type 0} (next : A → Files → Result B FileFault) → ((a : A) → IsStable (next a)) → (r : Result A FileFault) (m : Files) (file : List ℕ) → (ok_then r (λ a. next a (remove m file)) ≡ ok_then r (λ a. next a m)) ⊎ (ok_then r (λ a. next a (remove m file)) ≡ Err (fault file Absent))
+    second next two (Ok a) m file = two a m file
+    second next two (Err e) m file = inl refl
 
 -- what looks at no file
 pub known_stable : {A : Type 0} (r : Result A FileFault) → IsStable (λ m. r)

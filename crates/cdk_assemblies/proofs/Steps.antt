@@ -1,5 +1,5 @@
 -- What an answer to a part says of the whole: it stops there, or reads on.
-use Rattle.std.proofs.Common.{◌≡◌, ◌⊎◌, inl, inr, ℕ, ◌+◌, ◌<◌, List, [], ◌∷◌, ◌++◌, length, map, take, drop, get_or, Option, Some, None, Result, Ok, Err, IfSome, refl, sym, ap, ◌∙◌, subst, append_assoc, arith}
+use Rattle.std.proofs.Common.{◌≡◌, ◌⊎◌, inl, inr, ℕ, ◌+◌, ◌<◌, List, [], ◌∷◌, ◌++◌, length, map, take, drop, get_or, Some, None, Result, Ok, Err, IfSome, refl, sym, ap, ◌∙◌, subst, append_assoc}
 use Rattle.std.proofs.lemmas.List.{append-nil, map-append, take-append-drop, map_more}
 use Rattle.std.specs.FinMap.{remove}
 use Rattle.cdk_outside.specs.Outside.{Contents}
@@ -89,10 +89,10 @@ onto_one (Ok bs) before = ap (λ cs. Ok (before ++ cs)) (append-nil bs)
 each_more : {A X : Type 0} (f : A → Files → Result (List Stack) FileFault) (h : X → A) (before : List Stack) (xs : List X) (k : ℕ) (x d : X) → k < length xs → x ≡ get_or xs k d → (m : Files) → each_onto f before (map h (take (k + 1) xs)) m ≡ ok_then (each_onto f before (map h (take k xs)) m) (λ ss. onto ss (f (h x) m))
 each_more f h before xs k x d within is m =
     ap (λ ys. each_onto f before ys m) (map_more h xs k d within ∙ ap (λ y. map h (take k xs) ++ h y ∷ []) (sym is)) ∙ onto_split (λ y. f y m) before (map h (take k xs)) (h x ∷ []) ∙ last (each_onto f before (map h (take k xs)) m)
- where
-  last : (r : Result (List Stack) FileFault) → ok_then r (λ ss. onto ss (collected (λ y. f y m) (h x ∷ []))) ≡ ok_then r (λ ss. onto ss (f (h x) m))
-  last (Err e) = refl
-  last (Ok ss) = onto_one (f (h x) m) ss
+  where
+    last : (r : Result (List Stack) FileFault) → ok_then r (λ ss. onto ss (collected (λ y. f y m) (h x ∷ []))) ≡ ok_then r (λ ss. onto ss (f (h x) m))
+    last (Err e) = refl
+    last (Ok ss) = onto_one (f (h x) m) ss
 
 each_split : {A X : Type 0} (f : A → Files → Result (List Stack) FileFault) (h : X → A) (before : List Stack) (xs : List X) (k : ℕ) (m : Files) → each_onto f before (map h xs) m ≡ ok_then (each_onto f before (map h (take k xs)) m) (λ ss. each_onto f ss (map h (drop k xs)) m)
 each_split f h before xs k m =

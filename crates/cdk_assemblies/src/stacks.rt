@@ -32,7 +32,12 @@ pub fn ordered<'m>(
 }
 
 // A stack put behind those that are read.
-fn keep(alloc: Global, name: &str, template: Value, into: &mut List<StackIn>) -> Result<(), AsmError>
+fn keep(
+    alloc: Global,
+    name: &str,
+    template: Value,
+    into: &mut List<StackIn>,
+) -> Result<(), AsmError>
     ensures ok { OnOk result (map stack_view into.new ≡ map stack_view into.old ++ (record { name = name.now; template = view template }) ∷ []) }
     ensures err { IfErr result (λ e. e ≡ Memory) }
 {

@@ -1,4 +1,4 @@
-use Rattle.std.proofs.Common.{◌≡◌, ℕ, List, [], map, nat_lt, Bor, Ok, IfSome, refl, sym, ◌∙◌, subst, arith}
+use Rattle.std.proofs.Common.{◌≡◌, ℕ, List, [], map, nat_lt, Bor, Ok, IfSome, refl, ap, ◌∙◌, subst, arith}
 use Rattle.serde_json.specs.View.{view}
 use Rattle.cdk_eval.specs.Views.{stack_view}
 use Rattle.cdk_assemblies.specs.Answers.{Fails, onto, assembly_in, nested_in}
@@ -22,7 +22,7 @@ read_level-returns-then-levels-eq0-clause-reads g t c =
 
 pub read_level-returns-clause-reads : goal.read_level-returns-clause-reads
 read_level-returns-clause-reads g t c =
-    level_goes_on (λ _. map stack_view c.read_nested.new.into) c.read_nested.result (g.F.Files.files c.args.files.now) (g.F.Files.files c.read_own.new.files) c.args.levels (nat_lt 0 c.args.levels) c.args.dir.now (map stack_view c.args.into.now) (map stack_view c.read_own.new.into) (view c.in-Ok.manifest) (map (λ d. d.now) c.as_slice.result.now) (omega arith) refl c.in-Ok.ensures.reads c.in-Ok.ensures.files ? c.read_nested.ensures.reads
+    level_goes_on (λ _. map stack_view c.read_nested.new.into) c.read_nested.result (g.F.Files.files c.args.files.now) (g.F.Files.files c.read_own.new.files) c.args.levels (nat_lt 0 c.args.levels) c.args.dir.now (map stack_view c.args.into.now) (map stack_view c.read_own.new.into) (view c.in-Ok.manifest) (map (λ d. d.now) c.as_slice.result.now) (omega arith) refl c.in-Ok.ensures.reads c.in-Ok.ensures.files (ap (map (λ d. d.now)) c.as_slice.ensures.value ∙ c.in_ok-directories.ensures.ok) c.read_nested.ensures.reads
 
 pub read_nested-returns-in-Err-clause-reads : goal.read_nested-returns-in-Err-clause-reads
 read_nested-returns-in-Err-clause-reads g t c =

@@ -1,4 +1,4 @@
-use Rattle.std.proofs.Common.{map, ◌∙◌, rules}
+use Rattle.std.proofs.Common.{map, ◌∙◌}
 use Rattle.serde_json.specs.View.{view}
 use Rattle.cdk_eval.specs.Views.{stack_view}
 use Rattle.cdk_assemblies.proofs.Nesting.{own_without_manifest, own_without_stacks, own_read}
