@@ -7,7 +7,7 @@ use Rattle.cdk_eval.specs.declared.assembly.AsmError.{AsmError}
 use Rattle.cdk_eval.specs.declared.assembly.AsmError.TheVariants as refusals
 use Rattle.cdk_eval.specs.Reading.{Absent, FileFault, ok_then, collected}
 use Rattle.cdk_eval.specs.Stack.{Stack}
-use Rattle.cdk_assemblies.specs.Answers.{Files, fault, Fails, onto, each_onto}
+use Rattle.cdk_assemblies.specs.Answers.{Files, fault, Fails, Reads, onto, each_onto}
 use Rattle.cdk_assemblies.proofs.Readings.{IsStable, each_stable}
 
 -- ---- a refusal at given files
@@ -112,3 +112,7 @@ each_fails e c d f h before now xs k y stable within done same refuses =
     let P : Contents → Type 0 = λ o. IfSome o (Fails e (λ m. onto now (f (h x) m))) in
     let there = fails_same e c (each_onto f before (map h (take (k + 1) xs))) (λ m. ok_then (each_onto f before (map h (take k xs)) m) (λ ss. onto ss (f (h x) m))) (each_more f h before xs k x y within refl) (fails_next now e c (each_onto f before (map h (take k xs))) (λ ss m. onto ss (f (h x) m)) (each_stable f stable before (map h (take k xs))) done (subst P same refuses)) in
     fails_same e c (each_onto f before (map h xs)) (λ m. ok_then (each_onto f before (map h (take (k + 1) xs)) m) (λ ss. each_onto f ss (map h (drop (k + 1) xs)) m)) (each_split f h before xs (k + 1)) (fails_first e c (each_onto f before (map h (take (k + 1) xs))) (λ ss. each_onto f ss (map h (drop (k + 1) xs))) there)
+
+-- an answer that is a refusal says what the refusal says
+pub refusing : {T A : Type 0} (view : T → A) (r : Result T AsmError) (e : AsmError) (c : Contents) (reading : Files → Result A FileFault) → r ≡ Err e → IfSome c (Fails e reading) → Reads view r c reading
+refusing view r e c reading is h = let P : Result _ AsmError → Type 0 = λ o. Reads view o c reading in subst P (sym is) h

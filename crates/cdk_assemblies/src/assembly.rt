@@ -44,8 +44,6 @@ pub fn read_assembly<F: Files>(
     ensures failed_write { F.failed_write files.new ≡ F.failed_write files.old }
 {
     let mut stacks = List::new(alloc);
-    match read_level(alloc, files, dir, MOST_LEVELS, &mut stacks) {
-        Ok(()) => Ok(Assembly::of_stacks(stacks)),
-        Err(error) => Err(error),
-    }
+    read_level(alloc, files, dir, MOST_LEVELS, &mut stacks)?;
+    Ok(Assembly::of_stacks(stacks))
 }

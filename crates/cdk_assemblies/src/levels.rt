@@ -31,10 +31,7 @@ fn read_ordered<F: Files>(
     ensures write_faults { F.write_faults files.new ≡ F.write_faults files.old }
     ensures failed_write { F.failed_write files.new ≡ F.failed_write files.old }
 {
-    let stacks = match ordered(alloc, manifest, path) {
-        Ok(stacks) => stacks,
-        Err(error) => return Err(error),
-    };
+    let stacks = ordered(alloc, manifest, path)?;
     read_stacks(alloc, files, dir, stacks.as_slice(), into)
 }
 
@@ -56,14 +53,9 @@ fn read_own<F: Files>(
 {
     let path = path_in(alloc, dir, "manifest.json")?;
     let role = Role::Manifest { may_nest };
-    let manifest = match read_document(alloc, files, role, path.as_str()) {
-        Ok(manifest) => manifest,
-        Err(error) => return Err(error),
-    };
-    match read_ordered(alloc, files, dir, path.as_str(), &manifest, into) {
-        Ok(()) => Ok(manifest),
-        Err(error) => Err(error),
-    }
+    let manifest = read_document(alloc, files, role, path.as_str())?;
+    read_ordered(alloc, files, dir, path.as_str(), &manifest, into)?;
+    Ok(manifest)
 }
 
 // The directories of the nested assemblies, by artifact id.
@@ -97,10 +89,7 @@ fn read_nested<F: Files>(
 {
     for directory in directories {
         let below = path_in(alloc, dir, directory)?;
-        match read_level(alloc, files, below.as_str(), levels, into) {
-            Ok(()) => {}
-            Err(error) => return Err(error),
-        }
+        read_level(alloc, files, below.as_str(), levels, into)?;
     }
     Ok(())
 }
@@ -122,10 +111,7 @@ pub fn read_level<F: Files>(
     ensures write_faults { F.write_faults files.new ≡ F.write_faults files.old }
     ensures failed_write { F.failed_write files.new ≡ F.failed_write files.old }
 {
-    let manifest = match read_own(alloc, files, dir, levels > 0, into) {
-        Ok(manifest) => manifest,
-        Err(error) => return Err(error),
-    };
+    let manifest = read_own(alloc, files, dir, levels > 0, into)?;
     if levels == 0 {
         return Ok(());
     }

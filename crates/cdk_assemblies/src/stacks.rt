@@ -86,10 +86,7 @@ pub fn read_stacks<F: Files>(
     ensures failed_write { F.failed_write files.new ≡ F.failed_write files.old }
 {
     for stack in stacks {
-        match read_stack(alloc, files, dir, stack, into) {
-            Ok(()) => {}
-            Err(error) => return Err(error),
-        }
+        read_stack(alloc, files, dir, stack, into)?;
     }
     Ok(())
 }
