@@ -1,7 +1,7 @@
 // The call once, with a nested assembly, and once with a read that fails.
 use crate::read_assembly;
 use cdk_base::List;
-use cdk_eval::AsmError;
+use cdk_eval::{AsmError, Assembly};
 use cdk_outside::MemFiles;
 use std::alloc::{AllocError, Global};
 use std::test::Fail;
@@ -23,6 +23,13 @@ fn assembly_files(alloc: Global, failing: u64) -> Result<MemFiles, AllocError> {
     Ok(files)
 }
 
+fn is_read_fault(answer: &Result<Assembly, AsmError>, name: &str) -> bool {
+    match answer {
+        Err(AsmError::ReadFault { file }) => file.as_str() == name,
+        _ => false,
+    }
+}
+
 #[test]
 fn nested_assembly_is_read(rt: HostRuntime) -> Result<(), Fail> {
     let alloc = rt.alloc();
@@ -39,11 +46,7 @@ fn nested_assembly_is_read(rt: HostRuntime) -> Result<(), Fail> {
 fn failed_read_is_told(rt: HostRuntime) -> Result<(), Fail> {
     let alloc = rt.alloc();
     let mut files = assembly_files(alloc, 4)?;
-    match read_assembly(alloc, &mut files, "out") {
-        Err(AsmError::ReadFault { file }) => {
-            assert_eq!(rt; file.as_str(), "out/n/b.json");
-        }
-        _ => assert!(rt; false),
-    }
+    let answer = read_assembly(alloc, &mut files, "out");
+    assert!(rt; is_read_fault(&answer, "out/n/b.json"));
     Ok(())
 }
