@@ -68,7 +68,7 @@ onto before reading = ok_then reading (λ ss. Ok (before ++ ss))
 abbrev pub each_onto : {A : Type 0} → (A → Files → Result (List Stack) FileFault) → List Stack → List A → Files → Result (List Stack) FileFault
 each_onto f before xs m = onto before (collected (λ x. f x m) xs)
 
--- of a name and its template's file
+-- the stack of a name and its template's file
 abbrev pub stack_at : List ℕ → List ℕ × List ℕ → Files → Result (List Stack) FileFault
 stack_at dir s m = ok_then (document_in Template (path_in dir s.1) m) (λ t. Ok (record { name = s.0; template = t } ∷ []))
 

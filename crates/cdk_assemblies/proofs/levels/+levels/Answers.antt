@@ -1,7 +1,7 @@
 use Rattle.std.proofs.Common.{◌≡◌, ℕ, List, [], map, nat_lt, Bor, Ok, IfSome, refl, ap, ◌∙◌, subst, arith, rules}
 use Rattle.serde_json.specs.View.{view}
 use Rattle.cdk_eval.specs.Views.{stack_view}
-use Rattle.cdk_assemblies.specs.Answers.{Fails, onto, assembly_in, nested_in}
+use Rattle.cdk_assemblies.specs.Answers.{Fails, onto, each_onto, assembly_in, nested_in}
 use Rattle.cdk_assemblies.proofs.Readings.{assembly_stable}
 use Rattle.cdk_eval.specs.Reading.{path_in}
 use Rattle.cdk_assemblies.proofs.Steps.{each_gives, each_fails, refusing}
@@ -28,7 +28,7 @@ pub read_nested-returns-in_err-read_level-clause-reads : goal.read_nested-return
 read_nested-returns-in_err-read_level-clause-reads g t c =
     let at = c.as_str.ensures ∙ c.in_ok-below.ensures.ok in
     let P : List ℕ → Type 0 = λ p. IfSome (g.F.Files.files c.loop-directory.files) (Fails c.in_err-read_level.field-0.0 (λ m. onto (map stack_view c.loop-directory.into) (assembly_in c.args.levels p m))) in
-    refusing _ _ c.in_err-read_level.field-0.0 (g.F.Files.files c.args.files.now) _ (search rules) (each_fails c.in_err-read_level.field-0.0 (g.F.Files.files c.args.files.now) (g.F.Files.files c.loop-directory.files) (nested_in c.args.levels c.args.dir.now) (λ d. d.now) (map stack_view c.args.into.now) (map stack_view c.loop-directory.into) c.args.directories.now c.loop-directory.directory-index no_name (λ name. assembly_stable c.args.levels (path_in c.args.dir.now name)) c.loop-directory-test.true c.loop-directory.invariant.reads c.loop-directory.invariant.files (subst P at c.in_err-read_level.ensures.reads))
+    refusing _ _ c.in_err-read_level.field-0.0 (g.F.Files.files c.args.files.now) (each_onto (nested_in c.args.levels c.args.dir.now) (map stack_view c.args.into.now) (map (λ d. d.now) c.args.directories.now)) (search rules) (each_fails c.in_err-read_level.field-0.0 (g.F.Files.files c.args.files.now) (g.F.Files.files c.loop-directory.files) (nested_in c.args.levels c.args.dir.now) (λ d. d.now) (map stack_view c.args.into.now) (map stack_view c.loop-directory.into) c.args.directories.now c.loop-directory.directory-index no_name (λ name. assembly_stable c.args.levels (path_in c.args.dir.now name)) c.loop-directory-test.true c.loop-directory.invariant.reads c.loop-directory.invariant.files (subst P at c.in_err-read_level.ensures.reads))
 
 pub read_nested-loop-directory-preserved : goal.read_nested-loop-directory-preserved
 read_nested-loop-directory-preserved g t c =
