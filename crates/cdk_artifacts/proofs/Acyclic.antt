@@ -4,7 +4,7 @@ use Rattle.std.specs.Prelude.{◌⊎◌, ◌&&◌, ◌||◌, bytes_eq, if◌then
 use Rattle.std.specs.List.{list_all, list_any}
 use Rattle.cdk_eval.specs.Manifest.{StackArtifact, dependencies_of, comes_back, is_ready, first_then, placed, in_order, ids, AreApart}
 use Rattle.cdk_eval.specs.Reach.{is_among, comes_to, IsIn}
-use Rattle.cdk_eval.proofs.Reach.{any_in, bytes_same, same_bytes}
+use Rattle.cdk_eval.proofs.Reach.{bytes_same, same_bytes}
 use Rattle.cdk_artifacts.proofs.Placing.{or_swap}
 
 abbrev Stands : StackArtifact → List StackArtifact → Type 0
@@ -123,7 +123,7 @@ module _ (ss : List StackArtifact) (apart : AreApart ss) where
       at : (o : Option StackArtifact) → find (is_ready before) rest ≡ o
           → (is_among n before || is_among n (ids (first_then o (λ s. placed m (s.id ∷ before) (filter (λ r. not (bytes_eq r.id s.id)) rest))))) ≡ true
           → ((s : StackArtifact) → IsClosed (s.id ∷ before) → IsRest (s.id ∷ before) (filter (λ r. not (bytes_eq r.id s.id)) rest)
-              → (is_among n (s.id ∷ before) || is_among n (ids (placed m (s.id ∷ before) (filter (λ r. not (bytes_eq r.id s.id)) rest)))) ≡ true → comes_to (dependencies_of ss) k n n ≡ false)
+          → (is_among n (s.id ∷ before) || is_among n (ids (placed m (s.id ∷ before) (filter (λ r. not (bytes_eq r.id s.id)) rest)))) ≡ true → comes_to (dependencies_of ss) k n n ≡ false)
           → comes_to (dependencies_of ss) k n n ≡ false
       at None e h later = was.acyclic n (or_none (is_among n before) h) k
       at (Some s) e h later =

@@ -1,5 +1,5 @@
 -- The stacks of a manifest have ids that differ, as the keys of an object do.
-use Rattle.std.proofs.Common.{◌≡◌, ℕ, List, [], ◌∷◌, Bool, true, false, Ordering, Less, nat_cmp, string_bytes, refl, sym, ap, ◌∙◌}
+use Rattle.std.proofs.Common.{◌≡◌, ℕ, List, [], ◌∷◌, Bool, true, false, Less, nat_cmp, string_bytes, refl, sym, ap, ◌∙◌}
 use Rattle.std.specs.Prelude.{◌||◌, bytes_eq, if◌then◌else◌}
 use Rattle.std.specs.Cmp.Lexicographic.{slice_cmp}
 use Rattle.std.specs.List.{AllByRecursion}
@@ -8,12 +8,12 @@ use Rattle.std.specs.Map.{keys_of}
 use Rattle.std.specs.Ordering.{is_eq}
 use Rattle.std.specs.String.{string_cmp}
 use Rattle.std.proofs.lemmas.Map.Text.{is_eq-slice_cmp}
-use Rattle.serde_json.specs.Data.{Data, Members, no_members, member}
+use Rattle.serde_json.specs.Data.{Members, no_members, member}
 use Rattle.serde_json.specs.View.{view, members_view}
 use Rattle.serde_json.proofs.Views.{Entry}
-use Rattle.cdk_eval.specs.Manifest.{StackArtifact, stack_artifacts, stack_at, ids, AreApart}
+use Rattle.cdk_eval.specs.Manifest.{stack_artifacts, stack_at, ids, AreApart}
 use Rattle.cdk_eval.specs.Reach.{is_among}
-use Rattle.cdk_artifacts.specs.Found.{is_stack, stack_by, stack_onto, stacks_by}
+use Rattle.cdk_artifacts.specs.Found.{is_stack, stack_by, stacks_by}
 
 pub stacks_by_ids : (names : List (List ℕ)) (ms : Members) → stacks_by (λ n. is_among n names) ms ≡ stack_artifacts names ms
 stacks_by_ids names no_members = refl

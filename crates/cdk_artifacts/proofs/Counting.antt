@@ -1,14 +1,13 @@
 -- Counts of names and of numbers, and values at a number.
-use Rattle.std.proofs.Common.{◌≡◌, ◌≢◌, ℕ, zero, suc, ◌+◌, ◌-◌, ◌<◌, ◌≤◌, List, [], ◌∷◌, ◌++◌, length, map, take, Bor, Bool, true, false, not, refl, sym, ap, ◌∙◌, inl, inr, arith}
-use Rattle.std.specs.Prelude.{◌⊎◌, ◌&&◌, ◌||◌, bytes_eq, nat_eq, nat_lt, if◌then◌else◌, slice_index}
+use Rattle.std.proofs.Common.{◌≡◌, ◌≢◌, ℕ, zero, suc, ◌+◌, ◌-◌, ◌<◌, ◌≤◌, List, [], ◌∷◌, ◌++◌, length, map, take, Bor, Bool, true, false, refl, sym, ap, ◌∙◌, inl, inr, arith}
+use Rattle.std.specs.Prelude.{◌⊎◌, ◌&&◌, ◌||◌, nat_eq, nat_lt, if◌then◌else◌, slice_index}
 use Rattle.std.proofs.lemmas.Bool.Decides.{nat_tests}
 use Rattle.std.proofs.lemmas.Bool.{eq-eqb, ne_eqb}
 use Rattle.std.proofs.lemmas.List.{map-append, length-map, length-take-le}
 use Rattle.cdk_eval.specs.Manifest.{StackArtifact}
-use Rattle.cdk_eval.specs.Reach.{is_among}
 use Rattle.cdk_artifacts.specs.declared.stacks.Stack.{Stack}
 use Rattle.cdk_artifacts.specs.Found.{stack_view, texts_of}
-use Rattle.cdk_artifacts.specs.Queued.{plus_if, times, occurrences, missing, value_at}
+use Rattle.cdk_artifacts.specs.Queued.{plus_if, occurrences, missing, value_at}
 
 plus_if_twice : (a b : Bool) (n : ℕ) → plus_if a (plus_if b n) ≡ plus_if b (plus_if a n)
 plus_if_twice true true n = refl

@@ -4,7 +4,6 @@ ghost use Rattle.std.specs.Ordering.{nat_cmp};
 ghost use Rattle.std.specs.Cmp.Lexicographic.{slice_cmp};
 ghost use Rattle.std.specs.BTreeMap.{get_by};
 ghost use Rattle.cdk_eval.specs.Manifest.{StackArtifact, comes_back, cyclic};
-
 ghost use Rattle.cdk_artifacts.specs.Found.{texts_of, has_name, stack_view};
 ghost use Rattle.cdk_artifacts.specs.Ways.{leads_in, IsIndex, Grows, Pushed};
 

@@ -41,12 +41,7 @@ impl<'m> Dependents<'m> {
         Ok(())
     }
 
-    fn put_all(
-        &mut self,
-        alloc: Global,
-        names: &[&'m str],
-        number: usize,
-    ) -> Result<(), AllocError>
+    fn put_all(&mut self, alloc: Global, names: &[&'m str], number: usize) -> Result<(), AllocError>
         ensures { OnOk result ((n : List ℕ) (k : ℕ) → occurrences k (numbers_at self.new n) ≡ occurrences k (numbers_at self.old n) + (if nat_eq number k then times n (texts_of names.now) else 0)) }
     {
         for name in names {

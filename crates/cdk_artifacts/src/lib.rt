@@ -9,6 +9,8 @@ mod name_set;
 mod order;
 mod queue;
 mod stacks;
+#[cfg(test)]
+mod tests;
 
 pub use directories::nested_directories;
 pub use order::{Order, StackFile, stacks_in_order};

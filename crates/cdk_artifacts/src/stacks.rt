@@ -30,11 +30,7 @@ fn is_stack(artifact: &Value) -> bool
     is_type(artifact, "aws:cloudformation:stack")
 }
 
-fn put_stack<'m>(
-    ids: &mut NameSet<'m>,
-    id: &'m str,
-    artifact: &Value,
-) -> Result<(), AllocError>
+fn put_stack<'m>(ids: &mut NameSet<'m>, id: &'m str, artifact: &Value) -> Result<(), AllocError>
     ensures { OnOk result ((n : List ℕ) → has_name ids.new n ≡ has_name ids.old n || is_among n (if spec_is_stack (view artifact.now) then id.now ∷ [] else [])) }
 {
     if is_stack(artifact) {

@@ -1,5 +1,5 @@
 use Rattle.std.proofs.Common.{◌≡◌, drop, map}
-use Rattle.std.specs.Prelude.{find, option_map}
+use Rattle.std.specs.Prelude.{find}
 use Rattle.cdk_eval.specs.Manifest.{comes_back}
 use Rattle.cdk_artifacts.specs.Found.{stack_view}
 use Rattle.cdk_artifacts.proofs.cycle.first_cycle.Given as goal

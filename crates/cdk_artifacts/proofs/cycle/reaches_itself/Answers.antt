@@ -1,5 +1,5 @@
 use Rattle.std.proofs.Common.{◌≡◌, List, ℕ, refl, sym, ap, ◌∙◌, subst, inl, length}
-use Rattle.cdk_eval.specs.Manifest.{StackArtifact, dependencies_of}
+use Rattle.cdk_eval.specs.Manifest.{dependencies_of}
 use Rattle.cdk_eval.specs.Reach.{comes_to}
 use Rattle.cdk_eval.proofs.Order.{cycles_found}
 use mathlib.Core.Path.{fun_ext}

@@ -3,7 +3,7 @@ use Rattle.std.proofs.lemmas.List.{length-map}
 use Rattle.cdk_artifacts.specs.Found.{stack_view, has_name}
 use Rattle.cdk_artifacts.specs.Order.{file_view}
 use Rattle.cdk_artifacts.specs.Queued.{occurrences, waits, Releases}
-use Rattle.cdk_artifacts.proofs.Placing.{got_at, begins, ends, stops, steps, enough, number_within}
+use Rattle.cdk_artifacts.proofs.Placing.{got_at, begins, stops, steps, enough, number_within}
 use Rattle.cdk_artifacts.proofs.order.place_all.Goals as goal
 
 pub placing-init : goal.placing-init

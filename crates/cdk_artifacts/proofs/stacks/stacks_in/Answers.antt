@@ -1,5 +1,4 @@
-use Rattle.std.proofs.Common.{◌≡◌, ◌++◌, [], map, rules, sym, subst}
-use Rattle.std.proofs.lemmas.Grind.{common_steps}
+use Rattle.std.proofs.Common.{◌≡◌, map, rules, subst}
 use Rattle.serde_json.specs.View.{members_view}
 use Rattle.cdk_eval.specs.Manifest.{AreApart}
 use Rattle.cdk_artifacts.specs.Found.{has_name, stack_view, stacks_by}

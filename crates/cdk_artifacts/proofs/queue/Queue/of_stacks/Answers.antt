@@ -1,4 +1,4 @@
-use Rattle.std.proofs.Common.{◌≡◌, [], false, length, map, sym, ap, ◌∙◌}
+use Rattle.std.proofs.Common.{[], false, length, map, sym, ap, ◌∙◌}
 use Rattle.std.specs.Prelude.{◌&&◌, not, nat_eq, slice_index}
 use Rattle.cdk_eval.specs.Reach.{is_among}
 use Rattle.cdk_artifacts.specs.Found.{stack_view}
