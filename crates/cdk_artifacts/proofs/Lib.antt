@@ -1,0 +1,5 @@
+mod Acyclic
+mod Apart
+mod Counting
+mod Placing
+mod Search

@@ -1,0 +1,19 @@
+-- What the order of a manifest's stacks tells.
+use Rattle.std.specs.Prelude.{◌≡◌, ℕ, List, map, Some, None}
+use Rattle.serde_json.specs.Data.{Data}
+use Rattle.cdk_eval.specs.Manifest.{StackArtifact, stacks_of, cyclic, in_order}
+use Rattle.cdk_artifacts.specs.declared.order.Order.{Order}
+use Rattle.cdk_artifacts.specs.declared.order.Order.TheVariants.{Stacks, Cycle}
+use Rattle.cdk_artifacts.specs.declared.order.StackFile.{StackFile}
+
+-- a name and a file
+abbrev pub file_view : StackFile → List ℕ × List ℕ
+file_view s = (s.name.now, s.file.now)
+
+abbrev pub file_of : StackArtifact → List ℕ × List ℕ
+file_of s = (s.name, s.file)
+
+-- the stacks in evaluation order where none reaches itself, else the least artifact id that does
+abbrev pub IsOrder : Data → Order → Type 0
+IsOrder manifest (Stacks ss) = (cyclic (stacks_of manifest) ≡ None) × (map file_view ss.items ≡ map file_of (in_order (stacks_of manifest)))
+IsOrder manifest (Cycle id) = cyclic (stacks_of manifest) ≡ Some id.now

@@ -1,0 +1,95 @@
+// The order in which the stacks of a manifest are evaluated: each after those that it depends on, else by artifact id.
+ghost use Rattle.std.specs.Prelude.{◌≡◌, ◌++◌, ◌∷◌, [], ◌||◌, ℕ, List, map, length, slice_get, Some, IfOk, OnOk, bytes_eq, ◌<◌};
+ghost use Rattle.serde_json.specs.View.{view};
+ghost use Rattle.cdk_eval.specs.Manifest.{AreApart, ids as ids_of, in_order};
+ghost use Rattle.cdk_eval.specs.Reach.{is_among};
+ghost use Rattle.cdk_artifacts.specs.Found.{stack_view, has_name};
+ghost use Rattle.cdk_artifacts.specs.Order.{IsOrder, file_view, file_of};
+
+use crate::cycle::first_cycle;
+use crate::dependents::Dependents;
+use crate::name_set::NameSet;
+use crate::queue::Queue;
+use crate::stacks::{Stack, stacks_of};
+use cdk_base::Value;
+use std::alloc::{AllocError, Global};
+
+/// A stack's name and its template's file, borrowed from the manifest.
+#[derive(Clone, Copy)]
+pub struct StackFile<'m> {
+    pub name: &'m str,
+    pub file: &'m str,
+}
+
+/// The stacks of a manifest.
+#[derive(Drop)]
+pub enum Order<'m> {
+    /// In evaluation order.
+    Stacks(Vec<StackFile<'m>>),
+    /// The least artifact id of a stack that reaches itself by dependencies.
+    Cycle(&'m str),
+}
+
+/// The stacks that are placed.
+#[derive(Drop)]
+struct Placed<'m> {
+    files: Vec<StackFile<'m>>,
+    ids: NameSet<'m>,
+}
+
+fn place<'m>(placed: &mut Placed<'m>, stack: &Stack<'m>) -> Result<(), AllocError>
+    ensures files { OnOk result (map file_view placed.new.files.items ≡ map file_view placed.old.files.items ++ file_of (stack_view stack.now) ∷ []) }
+    ensures ids { OnOk result ((n : List ℕ) → has_name placed.new.ids n ≡ bytes_eq stack.now.id.now n || has_name placed.old.ids n) }
+{
+    placed.files.push(StackFile {
+        name: stack.name,
+        file: stack.file,
+    })?;
+    placed.ids.put(stack.id)
+}
+
+fn stack_at<'s, 'm>(stacks: &'s [Stack<'m>], number: usize) -> &'s Stack<'m>
+    requires { number < length stacks.now }
+    ensures { slice_get stacks.now number ≡ Some result.now }
+{
+    &stacks[number]
+}
+
+/// Places always next the stack of the least id whose dependencies are placed. It takes as many steps as the stacks have
+/// dependencies, and for each a look-up.
+fn place_all<'m>(alloc: Global, stacks: &[Stack<'m>]) -> Result<Placed<'m>, AllocError>
+    requires { AreApart (map stack_view stacks.now) }
+    ensures files { IfOk result (λ placed. map file_view placed.files.items ≡ map file_of (in_order (map stack_view stacks.now))) }
+    ensures ids { IfOk result (λ placed. (n : List ℕ) → has_name placed.ids n ≡ is_among n (ids_of (in_order (map stack_view stacks.now)))) }
+{
+    let dependents = Dependents::of_stacks(alloc, stacks)?;
+    let mut queue = Queue::of_stacks(alloc, stacks)?;
+    let mut placed = Placed {
+        files: Vec::new(alloc),
+        ids: NameSet::new(alloc),
+    };
+    'placing: for _turn in 0..stacks.len() {
+        let Some(number) = queue.next() else {
+            return Ok(placed);
+        };
+        let stack = stack_at(stacks, number);
+        place(&mut placed, stack)?;
+        queue.release(dependents.of(stack.id))?;
+    }
+    Ok(placed)
+}
+
+/// The stacks of a manifest in evaluation order: always next that of the least artifact id whose dependencies stand
+/// before it. Where a stack reaches itself by dependencies, the least artifact id of such a stack instead. The error is
+/// want of memory.
+pub fn stacks_in_order<'m>(alloc: Global, manifest: &'m Value) -> Result<Order<'m>, AllocError>
+    ensures { IfOk result (λ order. IsOrder (view manifest.now) order) }
+{
+    let stacks = stacks_of(alloc, manifest)?;
+    let stacks = stacks.as_slice();
+    let Placed { files, ids } = place_all(alloc, stacks)?;
+    match first_cycle(alloc, stacks, &ids)? {
+        Some(id) => Ok(Order::Cycle(id)),
+        None => Ok(Order::Stacks(files)),
+    }
+}

@@ -1,0 +1,4 @@
+pub mod Documents
+pub mod Nesting
+pub mod Readings
+pub mod Steps
