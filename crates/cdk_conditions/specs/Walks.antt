@@ -51,6 +51,7 @@ pub record AreJoined (below above joined : Group) : Type 0 where
   pub first : joined.first ≡ below.first
   pub members : Joins (members_of below) (members_of above) (members_of joined)
   pub waiting : Joins (waiting_of below) (waiting_of above) (waiting_of joined)
+  pub is_loop : joined.is_loop ≡ below.is_loop
 
 abbrev pub floor_of : List Group → ℕ
 floor_of [] = 0

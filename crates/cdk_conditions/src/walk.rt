@@ -119,6 +119,7 @@ impl<'a> Walk<'a> {
     pub fn new(alloc: Global) -> Walk<'a>
         ensures groups { result.groups ≡ [] }
         ensures positions { (n : List ℕ) → positions_of result n ≡ None }
+        ensures entered { result.entered ≡ 0 }
     {
         Walk {
             groups: List::new(alloc),
