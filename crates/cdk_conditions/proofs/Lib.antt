@@ -1,3 +1,7 @@
 mod Counts
-mod Search
+mod Groups
+mod Loops
 mod Settled
+mod Steps
+mod Walking
+mod Ways

@@ -1,7 +1,6 @@
 -- The truth of a condition whose names are settled.
 use Rattle.std.proofs.Common.{◌≡◌, ℕ, zero, suc, List, [], ◌∷◌, Bool, true, false, cond, Option, Some, None, refl, sym, subst, ap, ◌∙◌, inl, inr}
 use Rattle.std.specs.Prelude.{◌⊎◌, ◌||◌, is_some, bytes_eq, if◌then◌else◌}
-use Rattle.std.specs.List.{list_any}
 use Rattle.std.specs.Ordering.{nat_cmp, match_ordering, is_eq}
 use Rattle.std.specs.declared.cmp.Ordering.{Ordering}
 use Rattle.std.specs.declared.cmp.Ordering.TheVariants.{Less, Equal, Greater}
@@ -13,14 +12,15 @@ use Rattle.cdk_eval.specs.declared.fault.EvalFault.TheVariants.{UnknownName, Con
 use Rattle.cdk_eval.specs.Conditions.{names_in, names_of, count, is_loop, found_truth, truth_of, truth_within, named_truth}
 use Rattle.cdk_eval.specs.Outcomes.{Outcome, Untold}
 use Rattle.cdk_eval.specs.Reach.{IsIn, comes_to}
-use Rattle.cdk_eval.proofs.Reach.{bytes_same}
+use Rattle.cdk_eval.proofs.Reach.{bytes_same, same_bytes}
 use Rattle.cdk_eval.proofs.Bound.{truth_same, loops_found, names_opened}
 use Rattle.cdk_intrinsics.specs.Scopes.{kept_at, kept_truth, truth_in}
 use Rattle.cdk_intrinsics.specs.declared.truths.Kept.{Kept}
 use Rattle.cdk_intrinsics.specs.declared.truths.Truths.{Truths}
-use Rattle.cdk_conditions.specs.Kept.{is_kept, IsKeptRight, AreRight, IsNoLoop, IsSettled, AreSettled, Extends}
-use Rattle.cdk_conditions.specs.Ways.{leads_in}
-use Rattle.cdk_conditions.proofs.Search.{come_on}
+use Rattle.cdk_conditions.specs.Closing.{IsLooping, KeepsLoops, KeepsTruth}
+use Rattle.cdk_conditions.specs.Kept.{is_kept, IsKeptRight, AreRight, IsSettled, AreSettled}
+use Rattle.cdk_conditions.specs.Walks.{leads_in, Leads, AreClosed}
+use Rattle.cdk_conditions.proofs.Ways.{any_of, or_true}
 
 module _ (op : Data → Outcome) (cs : Members) where
   loop_within : (n : ℕ) (c : List ℕ) (d : Data) → get_member c cs ≡ Some d → is_loop cs c ≡ true → truth_within op cs n c ≡ Untold ConditionLoop
@@ -47,66 +47,108 @@ module _ (op : Data → Outcome) (cs : Members) where
   settled_truth ts c d right found settled no_loop =
       truth_same op (truth_in ts) (named_truth op cs) d (λ n i. kept_alike ts right n (settled n i)) ∙ sym (names_opened op cs c d found no_loop)
 
-  any_of : (t : List ℕ → Bool) (xs : List (List ℕ)) → list_any t xs ≡ true → (d : List ℕ) × IsIn d xs × (t d ≡ true)
-  any_of t [] h = cc
-  any_of t (x ∷ xs) h = at (t x) refl h (any_of t xs)
+  -- ---- what is settled leads to what is settled
+
+  known_no : (n d : List ℕ) → get_member n cs ≡ None → IsIn d (leads_in cs n) → ⊥
+  known_no n d none i = subst (λ o. IsIn d (names_of o)) none i
+
+  settled_next : (ts : Truths) → AreClosed cs ts → (n d : List ℕ) → IsSettled cs ts n → IsIn d (leads_in cs n) → IsSettled cs ts d
+  settled_next ts closed n d (inl k) i = closed n k d i
+  settled_next ts closed n d (inr none) i = absurd (known_no n d none i)
+
+  settled_on : (ts : Truths) → AreClosed cs ts → (k : ℕ) (n g : List ℕ) → AreSettled cs ts (leads_in cs n) → comes_to (leads_in cs) k g n ≡ true → IsSettled cs ts g
+  settled_on ts closed zero n g settled h = cc
+  settled_on ts closed (suc k) n g settled h =
+      let r = any_of (λ d. bytes_eq d g || comes_to (leads_in cs) k g d) (leads_in cs n) h in
+      at r.0 (settled r.0 r.1) (or_true (bytes_eq r.0 g) (comes_to (leads_in cs) k g r.0) r.2) (λ u. settled_on ts closed k r.0 g (λ d i. settled_next ts closed r.0 d (settled r.0 r.1) i) u)
     where
-      at : (b : Bool) → t x ≡ b → (b || list_any t xs) ≡ true → (list_any t xs ≡ true → (d : List ℕ) × IsIn d xs × (t d ≡ true)) → (d : List ℕ) × IsIn d (x ∷ xs) × (t d ≡ true)
-      at true e h later = (x, inl refl, e)
-      at false e h later = let r = later h in (r.0, inr r.1, r.2)
+      at : (d : List ℕ) → IsSettled cs ts d → (bytes_eq d g ≡ true) ⊎ (comes_to (leads_in cs) k g d ≡ true) → (comes_to (leads_in cs) k g d ≡ true → IsSettled cs ts g) → IsSettled cs ts g
+      at d s (inl e) later = subst (IsSettled cs ts) (bytes_same d g e) s
+      at d s (inr u) later = later u
 
-  -- what a condition leads to on its way back reaches itself
-  next_loops : (c e : List ℕ) (k : ℕ) → IsIn e (leads_in cs c) → (bytes_eq e c || comes_to (leads_in cs) k c e) ≡ true → is_loop cs c ≡ true → is_loop cs e ≡ true
-  next_loops c e k i h loop = at (bytes_eq e c) refl h
+  pub no_loop : (ts : Truths) (c : List ℕ) → AreClosed cs ts → AreSettled cs ts (leads_in cs c) → (IsSettled cs ts c → ⊥) → is_loop cs c ≡ false
+  no_loop ts c closed settled unsettled = at (is_loop cs c) refl
     where
-      at : (b : Bool) → bytes_eq e c ≡ b → (b || comes_to (leads_in cs) k c e) ≡ true → is_loop cs e ≡ true
-      at true s h = ap (is_loop cs) (bytes_same e c s) ∙ loop
-      at false s h = loops_found cs (suc k) e (come_on (leads_in cs) k c e e h i)
+      at : (b : Bool) → is_loop cs c ≡ b → is_loop cs c ≡ false
+      at true loop = absurd (unsettled (settled_on ts closed (count cs) c c settled loop))
+      at false e = e
 
-  known_at : (c e : List ℕ) → is_loop cs e ≡ true → get_member e cs ≡ None → ⊥
-  known_at c e loop none = at (count cs) loop
-    where
-      at : (n : ℕ) → comes_to (leads_in cs) n e e ≡ true → ⊥
-      at zero h = cc
-      at (suc n) h = let t = ap (λ o. list_any (λ d. bytes_eq d e || comes_to (leads_in cs) n e d) (names_of o)) none in cc
-
-  pub no_loop : (ts : Truths) (c : List ℕ) (d : Data) → AreRight op cs ts → get_member c cs ≡ Some d → AreSettled cs ts (names_in d) → ((n : List ℕ) → IsIn n (names_in d) → IsNoLoop (kept_at ts.kept n)) → false ≡ is_loop cs c
-  no_loop ts c d right found settled none = at (is_loop cs c) refl
-    where
-      apart : (e : List ℕ) (o : Option Kept) → kept_at ts.kept e ≡ o → IsKeptRight op cs e o → IsNoLoop o → (is_some o ≡ true) ⊎ (get_member e cs ≡ None) → is_loop cs e ≡ true → ⊥
-      apart e None s r l (inl k) loop = cc
-      apart e None s r l (inr m) loop = known_at e e loop m
-      apart e (Some k) s r l q loop = let f = r.1 in cc
-
-      back : (n : ℕ) → comes_to (leads_in cs) n c c ≡ true → is_loop cs c ≡ true → ⊥
-      back zero h loop = cc
-      back (suc n) h loop =
-          let r = any_of (λ e. bytes_eq e c || comes_to (leads_in cs) n c e) (leads_in cs c) h in
-          let i = subst (λ o. IsIn r.0 (names_of o)) found r.1 in
-          apart r.0 (kept_at ts.kept r.0) refl (right r.0) (none r.0 i) (settled r.0 i) (next_loops c r.0 n r.1 r.2 loop)
-
-      at : (b : Bool) → is_loop cs c ≡ b → false ≡ is_loop cs c
-      at true loop = absurd (back (count cs) loop loop)
-      at false e = sym e
-
-  -- ---- one more is kept
+  -- ---- more is kept
 
   kept_either : (a : Bool) (k : Kept) (o : Option Kept) → is_some o ≡ true → is_some (cond a (Some k) o) ≡ true
   kept_either true k o h = refl
   kept_either false k o h = h
 
+  kept_new : (c n : List ℕ) (a : Bool) (k : Kept) (o : Option Kept) → bytes_eq c n ≡ a → is_some (cond a (Some k) o) ≡ true → (c ≡ n) ⊎ (is_some o ≡ true)
+  kept_new c n true k o e h = inl (bytes_same c n e)
+  kept_new c n false k o e h = inr h
+
   right_either : (c n : List ℕ) (a : Bool) (k : Kept) (o : Option Kept) → bytes_eq c n ≡ a → IsKeptRight op cs c (Some k) → IsKeptRight op cs n o → IsKeptRight op cs n (cond a (Some k) o)
   right_either c n true k o e new old = subst (λ (m : List ℕ). IsKeptRight op cs m (Some k)) (bytes_same c n e) new
   right_either c n false k o e new old = old
 
-  pub keeps : (old new : Truths) (c : List ℕ) (k : Kept) → AreRight op cs old → IsKeptRight op cs c (Some k) → ((n : List ℕ) → kept_at new.kept n ≡ (if bytes_eq c n then Some k else kept_at old.kept n)) → Extends op cs old new
-  keeps old new c k right here kept = (
-    λ n. subst (IsKeptRight op cs n) (sym (kept n)) (right_either c n (bytes_eq c n) k (kept_at old.kept n) refl here (right n)),
-    λ n h. ap is_some (kept n) ∙ kept_either (bytes_eq c n) k (kept_at old.kept n) h,
-  )
+  -- the names are kept too, and no others
+  pub record Keeps (names : List (List ℕ)) (old new : Truths) : Type 0 where
+    pub right : AreRight op cs new
+    pub kept : (n : List ℕ) → is_kept old n ≡ true → is_kept new n ≡ true
+    pub each : (n : List ℕ) → IsIn n names → is_kept new n ≡ true
+    pub given : (n : List ℕ) → is_kept new n ≡ true → (is_kept old n ≡ true) ⊎ IsIn n names
 
-  pub extends_on : (a b d : Truths) → Extends op cs a b → Extends op cs b d → Extends op cs a d
-  extends_on a b d g h = (h.0, λ n k. h.1 n (g.1 n k))
+  is_condition : (ts : Truths) (n : List ℕ) → (IsSettled cs ts n → ⊥) → (d : Data) × (get_member n cs ≡ Some d)
+  is_condition ts n unsettled = at (get_member n cs) refl
+    where
+      at : (o : Option Data) → get_member n cs ≡ o → (d : Data) × (get_member n cs ≡ Some d)
+      at None e = absurd (unsettled (inr e))
+      at (Some d) e = (d, e)
+
+  pub keeps_loops : (names : List (List ℕ)) (old new : Truths) → AreRight op cs old → ((n : List ℕ) → IsIn n names → Leads cs n n × (IsSettled cs old n → ⊥)) → KeepsLoops names old new → Keeps names old new
+  keeps_loops names old new right loops keeps = record {
+    right = λ n. right_at n (keeps.others n);
+    kept = λ n h. kept_at_all n h (keeps.others n);
+    each = λ n i. some n (keeps.kept n i);
+    given = λ n h. given_at n h (keeps.others n);
+  }
+    where
+      some : (n : List ℕ) → IsLooping (kept_at new.kept n) → is_kept new n ≡ true
+      some n l = ap is_some l.found
+
+      right_at : (n : List ℕ) → (IsIn n names × IsLooping (kept_at new.kept n)) ⊎ (kept_at new.kept n ≡ kept_at old.kept n) → IsKeptRight op cs n (kept_at new.kept n)
+      right_at n (inr e) = subst (IsKeptRight op cs n) (sym e) (right n)
+      right_at n (inl l) =
+          let here = loops n l.0 in
+          let loop : is_loop cs n ≡ true = loops_found cs here.0.0 n here.0.1 in
+          let found = is_condition old n here.1 in
+          subst (IsKeptRight op cs n) (sym l.1.found) (l.1.truth ∙ sym (loop_truth n found.0 found.1 loop), l.1.is_loop ∙ sym loop)
+
+      kept_at_all : (n : List ℕ) → is_kept old n ≡ true → (IsIn n names × IsLooping (kept_at new.kept n)) ⊎ (kept_at new.kept n ≡ kept_at old.kept n) → is_kept new n ≡ true
+      kept_at_all n h (inl l) = some n l.1
+      kept_at_all n h (inr e) = ap is_some e ∙ h
+
+      given_at : (n : List ℕ) → is_kept new n ≡ true → (IsIn n names × IsLooping (kept_at new.kept n)) ⊎ (kept_at new.kept n ≡ kept_at old.kept n) → (is_kept old n ≡ true) ⊎ IsIn n names
+      given_at n h (inl l) = inr l.0
+      given_at n h (inr e) = inl (sym (ap is_some e) ∙ h)
+
+  pub keeps_truth : (old new : Truths) (c : List ℕ) (d : Data) → AreRight op cs old → AreClosed cs old → get_member c cs ≡ Some d → AreSettled cs old (leads_in cs c) → (IsSettled cs old c → ⊥) → KeepsTruth op c d old new → Keeps (c ∷ []) old new
+  keeps_truth old new c d right closed found settled unsettled keeps = record {
+    right = λ n. subst (IsKeptRight op cs n) (sym (keeps.updates n)) (right_either c n (bytes_eq c n) keeps.one (kept_at old.kept n) refl here (right n));
+    kept = λ n h. ap is_some (keeps.updates n) ∙ kept_either (bytes_eq c n) keeps.one (kept_at old.kept n) h;
+    each = λ n i. name n i;
+    given = λ n h. turned n (kept_new c n (bytes_eq c n) keeps.one (kept_at old.kept n) refl (sym (ap is_some (keeps.updates n)) ∙ h));
+  }
+    where
+      no : is_loop cs c ≡ false
+      no = no_loop old c closed settled unsettled
+
+      here : IsKeptRight op cs c (Some keeps.one)
+      here = (keeps.truth ∙ settled_truth old c d right found (subst (λ o. AreSettled cs old (names_of o)) found settled) no, keeps.is_loop ∙ sym no)
+
+      name : (n : List ℕ) → IsIn n (c ∷ []) → is_kept new n ≡ true
+      name n (inl e) = subst (λ (m : List ℕ). is_kept new m ≡ true) e (ap is_some (keeps.updates c) ∙ ap (λ b. is_some (cond b (Some keeps.one) (kept_at old.kept c))) (same_bytes c))
+      name n (inr i) = absurd i
+
+      turned : (n : List ℕ) → (c ≡ n) ⊎ (is_kept old n ≡ true) → (is_kept old n ≡ true) ⊎ IsIn n (c ∷ [])
+      turned n (inl e) = inr (inl e)
+      turned n (inr h) = inl h
 
 -- ---- all conditions are kept
 
@@ -132,3 +174,7 @@ all_settled cs ts n all = at (is_some (get_member n cs)) refl
     at : (b : Bool) → is_some (get_member n cs) ≡ b → IsSettled cs ts n
     at true e = kept (all e)
     at false e = inr (none_of (get_member n cs) e)
+
+pub kept_there : (cs : Members) (ts : Truths) (n : List ℕ) → is_some (get_member n cs) ≡ true → IsSettled cs ts n → is_kept ts n ≡ true
+kept_there cs ts n there (inl k) = k
+kept_there cs ts n there (inr none) = let f = ap is_some none in cc

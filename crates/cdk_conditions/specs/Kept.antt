@@ -64,17 +64,9 @@ module _ (operand : Data → Outcome) (cs : Members) where
 abbrev pub is_kept : Truths → List ℕ → Bool
 is_kept ts c = is_some (kept_at ts.kept c)
 
-abbrev pub IsNoLoop : Option Kept → Type 0
-IsNoLoop None = ⊤
-IsNoLoop (Some k) = k.is_loop ≡ false
-
 -- kept, or the name of no condition
 abbrev pub IsSettled : Members → Truths → List ℕ → Type 0
 IsSettled cs ts n = (is_kept ts n ≡ true) ⊎ (get_member n cs ≡ None)
 
 abbrev pub AreSettled : Members → Truths → List (List ℕ) → Type 0
 AreSettled cs ts ns = (n : List ℕ) → IsIn n ns → IsSettled cs ts n
-
--- all that is kept is right, and nothing that was kept is lost
-abbrev pub Extends : (Data → Outcome) → Members → Truths → Truths → Type 0
-Extends operand cs old new = AreRight operand cs new × ((n : List ℕ) → is_kept old n ≡ true → is_kept new n ≡ true)

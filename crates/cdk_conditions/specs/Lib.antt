@@ -1,2 +1,3 @@
+pub mod Closing
 pub mod Kept
-pub mod Ways
+pub mod Walks

@@ -2,7 +2,7 @@
 ghost use Rattle.std.specs.Prelude.{◌≡◌, ◌++◌, ℕ, List, OnOk, IfOk, map, option_map};
 ghost use Rattle.serde_json.specs.Find.{get_member};
 ghost use Rattle.serde_json.specs.View.{view, items_view, members_view};
-ghost use Rattle.cdk_eval.specs.Conditions.{one_name, item_names, part_names, names_in as spec_names_in, names_of as spec_names_of, has_items, is_few as spec_is_few, is_one as spec_is_one};
+ghost use Rattle.cdk_eval.specs.Conditions.{one_name, item_names, part_names, names_in as spec_names_in, has_items, is_few as spec_is_few, is_one as spec_is_one};
 ghost use Rattle.cdk_conditions.specs.Kept.{texts_of, form_names};
 
 use cdk_base::{Map, Value};
@@ -121,18 +121,4 @@ pub fn names_in<'a>(alloc: Global, condition: &'a Value) -> Result<Vec<&'a str>,
     let mut names = Vec::new(alloc);
     push_names(&mut names, condition)?;
     Ok(names)
-}
-
-/// The names that the condition of a name names; none where there is no such condition.
-pub fn names_at<'a>(
-    alloc: Global,
-    conditions: &'a Map,
-    name: &str,
-) -> Result<Vec<&'a str>, AllocError>
-    ensures { IfOk result (λ ns. texts_of ns.items ≡ spec_names_of (get_member name.now (members_view conditions.now.entries))) }
-{
-    match condition_at(conditions, name) {
-        Some(condition) => names_in(alloc, condition),
-        None => Ok(Vec::new(alloc)),
-    }
 }

@@ -6,31 +6,32 @@ use Rattle.cdk_eval.specs.Conditions.{named_truth}
 use Rattle.cdk_eval.specs.Sections.{operand_scope}
 use Rattle.cdk_eval.specs.Template.{outcome}
 use Rattle.cdk_eval.specs.Views.{values_view}
-use Rattle.cdk_conditions.specs.Kept.{is_kept}
-use Rattle.cdk_conditions.proofs.Settled.{next_key, all_settled, kept_alike}
+use Rattle.cdk_conditions.specs.Kept.{is_kept, IsSettled}
+use Rattle.cdk_conditions.proofs.Settled.{next_key, all_settled, kept_alike, kept_there}
 use Rattle.cdk_conditions.proofs.order.truths_of.Goals as goal
 
 pub loop-name-preserved : goal.loop-name-preserved
 loop-name-preserved c =
     let l = c.loop-name in
-    let extends = c.in_ok-settle.ensures.extends in
+    let cs = members_view c.in-Some.conditions.now.entries in
+    let was = c.in_ok-settle.ensures in
     let key = string_bytes c.in-Some-2.name.now in
     let rest = members_view c.next.new.self in
     let new = c.settle.new.truths in
-    let kept : is_kept new key ≡ true = subst (λ (n : List ℕ). is_kept new n ≡ true) c.as_str.ensures.value c.in_ok-settle.ensures.kept in
-    let here = λ (n : List ℕ) (k : (key ≡ n) ⊎ (is_some (get_member n rest) ≡ true)).
-    let P : (is_kept new n ≡ true) ⊎ (is_some (get_member n rest) ≡ true) = elim k [ inl e ↦ inl (subst (λ (m : List ℕ). is_kept new m ≡ true) e kept) | inr m ↦ inr m ] in P in
-    let old = λ (n : List ℕ) (k : (is_kept l.truths n ≡ true) ⊎ (is_some (get_member n (members_view l.name-iterator)) ≡ true)).
+    let settled : IsSettled cs new key = subst (IsSettled cs new) c.as_str.ensures.value was.settled in
+    let here = λ (n : List ℕ) (there : is_some (get_member n cs) ≡ true) (k : (key ≡ n) ⊎ (is_some (get_member n rest) ≡ true)).
+    let P : (is_kept new n ≡ true) ⊎ (is_some (get_member n rest) ≡ true) = elim k [ inl e ↦ inl (kept_there cs new n there (subst (IsSettled cs new) e settled)) | inr m ↦ inr m ] in P in
+    let old = λ (n : List ℕ) (there : is_some (get_member n cs) ≡ true) (k : (is_kept l.truths n ≡ true) ⊎ (is_some (get_member n (members_view l.name-iterator)) ≡ true)).
     let P : (is_kept new n ≡ true) ⊎ (is_some (get_member n rest) ≡ true) = elim k [
-      | inl e ↦ inl (extends.1 n e)
-      | inr m ↦ here n (next_key n key (view c.in-Some-2._condition.now) rest (subst (λ es. is_some (get_member n (members_view es)) ≡ true) c.in-Some-2.ensures.steps m))
+      | inl e ↦ inl (was.kept n e)
+      | inr m ↦ here n there (next_key n key (view c.in-Some-2._condition.now) rest (subst (λ es. is_some (get_member n (members_view es)) ≡ true) c.in-Some-2.ensures.steps m))
     ] in P in
-    (extends.0, λ n h. old n (l.invariant.1 n h))
+    (was.right, was.closed, λ n h. old n h (l.invariant.2 n h))
 
 pub returns : goal.returns
 returns c n =
     let l = c.loop-name in
     let op = outcome (operand_scope (values_view c.args.values.now) c.args.stack.now (view c.args.template.now)) in
     let cs = members_view c.in-Some.conditions.now.entries in
-    kept_alike op cs l.truths l.invariant.0 n (all_settled cs l.truths n (λ h. subst (λ es. (is_kept l.truths n ≡ true) ⊎ (is_some (get_member n (members_view es)) ≡ true)) c.in-None.ensures.steps.0 (l.invariant.1 n h)))
+    kept_alike op cs l.truths l.invariant.0 n (all_settled cs l.truths n (λ h. subst (λ es. (is_kept l.truths n ≡ true) ⊎ (is_some (get_member n (members_view es)) ≡ true)) c.in-None.ensures.steps.0 (l.invariant.2 n h)))
     ∙ ap (λ ms. named_truth op ms n) c.in-Some.ensures
