@@ -1,5 +1,5 @@
 // Copies of expressions, which texts with variables put in at each use.
-ghost use Rattle.std.specs.Prelude.{◌≡◌, IfOk};
+ghost use Rattle.std.specs.Prelude.{◌≡◌, ◌+◌, IfOk, OnOk, OnErr};
 ghost use Rattle.cdk_language.specs.Expression.{view, expressions_view, fields_view};
 
 use cdk_base::{List, Text};
@@ -18,11 +18,17 @@ impl Copies {
     pub const MOST: u32 = 16_000_000;
 
     /// The allowance of one document.
-    pub fn new() -> Copies {
+    pub fn new() -> Copies
+        ensures { result.left ≡ 16000000 }
+    {
         Copies { left: Copies::MOST }
     }
 
-    fn count(&mut self) -> Result<(), AllocError> {
+    // One more is put in. It answers want of memory exactly where none may.
+    fn count(&mut self) -> Result<(), AllocError>
+        ensures counted { OnOk result (self.new.left + 1 ≡ self.old.left) }
+        ensures refused { OnErr result (self.old.left ≡ 0) }
+    {
         if self.left == 0 {
             return Err(AllocError);
         }
