@@ -1,10 +1,9 @@
 -- From the files that stand after a synthesis to their meaning.
-use Rattle.std.proofs.Common.{◌≡◌, ℕ, ◌+◌, ◌<◌, ◌≤◌, List, [], ◌∷◌, ◌++◌, length, Bool, true, false, Option, Some, None, IfSome, cond, if◌then◌else◌, nat_lt, refl, sym, ap, ◌∙◌, subst, arith, length-append, true≢false, option_map}
-use Rattle.std.specs.Prelude.{codes, bytes_eq, Ok}
-use Rattle.std.specs.Ordering.{nat_cmp, eq_by_cmp}
+use Rattle.std.proofs.Common.{◌≡◌, ℕ, ◌<◌, List, [], ◌∷◌, length, Bool, true, false, Option, Some, None, cond, if◌then◌else◌, nat_lt, refl, sym, ap, ◌∙◌, subst, arith, length-append, true≢false}
+use Rattle.std.specs.Prelude.{codes, bytes_eq}
+use Rattle.std.specs.Ordering.{nat_cmp}
 use Rattle.std.specs.Cmp.Lexicographic.{slice_cmp, texts_ties}
 use Rattle.std.specs.FinMap.{FinMap, get, insert, remove, get-insert}
-use Rattle.std.specs.Str.{IsUtf8, is_utf8}
 use Rattle.std.proofs.lemmas.Cmp.{nat_list_cmp_total}
 use Rattle.std.proofs.lemmas.Slice.Eq.{bytes_eq-Decides}
 use Rattle.std.proofs.lemmas.Str.{is_utf8-from_IsUtf8}
@@ -13,9 +12,9 @@ use Rattle.cdk_base.specs.Json.{parsed}
 use Rattle.cdk_base.specs.Pretty.{pretty_text}
 use Rattle.cdk_base.specs.declared.code.Code.TheVariants.{TooLong, Shape}
 use Rattle.cdk_names.specs.Forms.{is_logical}
-use Rattle.cdk_outside.specs.Outside.{Contents, Holds, with_file, without_file}
+use Rattle.cdk_outside.specs.Outside.{Contents, Holds}
 use Rattle.cdk_write.specs.Steps.{path_in, files_after_all}
-use Rattle.cdk_literals.specs.LiteralStack.{LiteralStack, is_literal_stack}
+use Rattle.cdk_literals.specs.LiteralStack.{LiteralStack}
 use Rattle.cdk_literals.specs.Form.{is_application, stack_in}
 use Rattle.cdk_literals.specs.Documents.{template, template_file, manifest, tree_file}
 use Rattle.cdk_literals.specs.Written.{IsWrittenStack}
@@ -24,7 +23,7 @@ use Rattle.cdk_literals.proofs.DocumentLaws.{template_free}
 use Rattle.cdk_literal_meaning.specs.TreeMeaning.{evaluated}
 use Rattle.cdk_literal_meaning.proofs.Law.{literals_keep_meaning_law}
 use Rattle.cdk_tool.specs.Assembly.{Found, found, document_fault, first_fault, assembly_of, document_files, files_of_stack, steps_of, AllUtf8}
-use Rattle.cdk_tool.specs.Headline.{Means, MeaningIsKept, tree_of, tree_of_document}
+use Rattle.cdk_tool.specs.Headline.{Means, MeaningIsKept, tree_of_document}
 use Rattle.cdk_tool.proofs.AssemblyLemmas.{stack_written}
 
 abbrev Files : Type 0

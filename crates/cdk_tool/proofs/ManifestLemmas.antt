@@ -1,5 +1,5 @@
 -- What stands of an assembly whose writing stopped: its manifest, and all of it at the first steps.
-use Rattle.std.proofs.Common.{◌≡◌, ◌⊎◌, inl, inr, ℕ, zero, suc, ◌<◌, List, [], ◌∷◌, length, take, Bool, true, false, Option, Some, None, IfSome, if◌then◌else◌, nat_lt, refl, sym, ap, ◌∙◌, subst, arith}
+use Rattle.std.proofs.Common.{◌≡◌, ◌⊎◌, inl, inr, ℕ, zero, suc, ◌<◌, List, length, take, Option, Some, None, if◌then◌else◌, nat_lt, refl, sym, ap, ◌∙◌, subst, arith}
 use Rattle.std.specs.Prelude.{slice_get, unwrap_or, codes, bytes_eq}
 use Rattle.std.specs.Ordering.{nat_cmp}
 use Rattle.std.specs.Cmp.Lexicographic.{slice_cmp}
@@ -7,8 +7,8 @@ use Rattle.std.specs.FinMap.{FinMap, get}
 use Rattle.serde_json.specs.Data.{Data}
 use Rattle.cdk_base.specs.Json.{parsed}
 use Rattle.cdk_outside.specs.Outside.{Contents, Directories}
-use Rattle.cdk_write.specs.Steps.{WriteStep, make_directory, remove, put, path_in, StoppedAt, LeavesPartOf, files_after_all}
-use Rattle.cdk_write.specs.Standing.{left_by_all, IsCutShort, StandsAt}
+use Rattle.cdk_write.specs.Steps.{WriteStep, make_directory, remove, path_in, StoppedAt, LeavesPartOf}
+use Rattle.cdk_write.specs.Standing.{left_by_all, IsCutShort}
 use Rattle.cdk_write.proofs.StandingLemmas.{stands_at}
 use Rattle.cdk_literals.specs.LiteralStack.{LiteralStack}
 use Rattle.cdk_literals.specs.Form.{is_application, stack_in}

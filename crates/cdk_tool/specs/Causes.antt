@@ -1,5 +1,5 @@
 -- What shows each answer of `synth`: counts, kept names, files, directories and lines (own).
-use Rattle.std.specs.Prelude.{◌≡◌, ◌⊎◌, ◌<◌, ℕ, ⊤, List, [], ◌∷◌, length, take, Option, Some, None, IfSome, slice_get, codes}
+use Rattle.std.specs.Prelude.{◌≡◌, ◌⊎◌, ◌<◌, ℕ, ⊤, List, [], ◌∷◌, length, take, Option, Some, None, IfSome, codes}
 use Rattle.std.specs.FinMap.{get}
 use Rattle.cdk_base.specs.declared.code.Code.{Code}
 use Rattle.cdk_base.specs.declared.fault.Fault.{Fault}

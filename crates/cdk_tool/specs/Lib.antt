@@ -1,5 +1,7 @@
 pub mod Assembly
 pub mod Causes
+pub mod EvalCauses
+pub mod Evaluation
 pub mod Headline
 pub mod Status
 pub mod Words

@@ -1,5 +1,6 @@
 -- The exit statuses, and which answers may come of which command (own).
-use Rattle.std.specs.Prelude.{ℕ, Bool, true, false, ⊤}
+use Rattle.std.specs.Prelude.{ℕ, Bool, true, false, ⊤, Option, Some}
+use Rattle.cdk_tool.specs.Words.{CommandWords, SynthWords, EvalWords}
 use Rattle.cdk_tool.specs.declared.status.Status.{Status}
 use Rattle.cdk_tool.specs.declared.status.Status.TheVariants.{Done, AppFault, BadWords, EvalFaults, ReadFault, WriteFault, NoMemory, BadInput}
 
@@ -22,21 +23,55 @@ is_of_synth WriteFault = true
 is_of_synth NoMemory = true
 is_of_synth _ = false
 
+-- the answers of `eval`
+abbrev pub is_of_eval : Status → Bool
+is_of_eval Done = true
+is_of_eval EvalFaults = true
+is_of_eval ReadFault = true
+is_of_eval WriteFault = true
+is_of_eval NoMemory = true
+is_of_eval BadInput = true
+is_of_eval _ = false
+
+-- the answers of a command
+abbrev pub may_answer : CommandWords → Status → Bool
+may_answer (SynthWords _ _) status = is_of_synth status
+may_answer (EvalWords _ _) status = is_of_eval status
+
 -- the answers of writing
 abbrev pub is_of_writing : Status → Bool
 is_of_writing Done = true
 is_of_writing WriteFault = true
 is_of_writing _ = false
 
--- the answers after which something may have been written to files
-abbrev pub may_have_written : Status → Bool
-may_have_written Done = true
-may_have_written WriteFault = true
-may_have_written _ = false
+-- the answers of printing
+abbrev pub is_of_printing : Status → Bool
+is_of_printing Done = true
+is_of_printing EvalFaults = true
+is_of_printing WriteFault = true
+is_of_printing _ = false
 
--- the answers where no call of the outside fails
+-- the answers after which something may have been written to files
+abbrev pub may_have_written : Option CommandWords → Status → Bool
+may_have_written (Some (SynthWords _ _)) status = is_of_writing status
+may_have_written _ status = false
+
+-- the answers after which something may have been printed
+abbrev pub may_have_printed : Option CommandWords → Status → Bool
+may_have_printed (Some (EvalWords _ _)) status = is_of_printing status
+may_have_printed _ status = false
+
+-- the answers of `synth` where no call of the outside fails
 abbrev pub IsComplete : Status → Type 0
 IsComplete Done = ⊤
 IsComplete AppFault = ⊤
 IsComplete NoMemory = ⊤
 IsComplete _ = ⊥
+
+-- the answers of `eval` where no call of the outside fails
+abbrev pub IsCompleteEval : Status → Type 0
+IsCompleteEval Done = ⊤
+IsCompleteEval EvalFaults = ⊤
+IsCompleteEval NoMemory = ⊤
+IsCompleteEval BadInput = ⊤
+IsCompleteEval _ = ⊥

@@ -1,6 +1,8 @@
 //! The commands of the program: words, synthesis, the order of reads and writes, and each answer with its cause.
 #![tactic(auto)]
 
+mod evaluation;
+mod inputs;
 mod status;
 mod synthesis;
 mod top;

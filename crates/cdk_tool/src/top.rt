@@ -1,17 +1,18 @@
 // The top call: the order of refusals, of the memory that is taken and of the writes.
-ghost use Rattle.std.specs.Prelude.{◌≡◌, ◌≤◌, ℕ, List, true, false, [], ◌∷◌, IfOk, IfErr, IfSome, OnSome, OnErr, None, Some, MatchOption, map};
+ghost use Rattle.std.specs.Prelude.{◌≡◌, ◌≤◌, ℕ, List, true, false, [], ◌∷◌, IfOk, IfErr, IfSome, OnSome, OnErr, None, Some, MatchOption, map, codes};
 ghost use Rattle.cdk_outside.specs.Outside.{Holds, Rose};
 ghost use Rattle.cdk_write.specs.Lines.{read_line, write_line, error_line, bad_words_line, memory_line, Says};
 ghost use Rattle.cdk_write.specs.Steps.{step_view, step_path, files_after_all, directories_after_all, StoppedAt, put, path_in as path_in_directory};
 ghost use Rattle.cdk_tool.specs.Assembly.{first_fault, assembly_of, steps_of as steps_of_writing, AllUtf8};
 ghost use Rattle.cdk_tool.specs.Headline.{MeaningIsKept};
-ghost use Rattle.cdk_tool.specs.Words.{command_of};
-ghost use Rattle.cdk_tool.specs.Status.{is_of_synth, is_of_writing, may_have_written, IsComplete};
+ghost use Rattle.cdk_tool.specs.EvalCauses.{is_reported, IsReported, IsPartlyReported, IsBadInput, IsUnread};
+ghost use Rattle.cdk_tool.specs.Words.{command_of, OnSynth, OnEval};
+ghost use Rattle.cdk_tool.specs.Status.{is_of_synth, is_of_writing, may_answer, may_have_written, may_have_printed, IsComplete, IsCompleteEval};
 ghost use Rattle.cdk_tool.specs.Causes.{IsCause, IsDone, IsCut, IsReadFault, IsAppFault, IsToldFault, IsToldRefusal};
 
+use crate::evaluation::eval_command;
 use crate::synthesis::{MOST_BYTES, fault_at_root};
-use crate::words::synth_words;
-use crate::{File, Status, plain, synth};
+use crate::{Command, File, Status, plain, synth};
 use cdk_base::{Code, Fault, List, Text};
 use cdk_outside::{Files, ReadError, Sink};
 use cdk_write::{
@@ -110,7 +111,7 @@ fn perform<F: Files, E: Sink>(steps: &[Step<'_>], files: &mut F, err: &mut E) ->
 }
 
 #[tactic(auto, unfolding(cdk_write::specs::Lines::memory_line))]
-fn out_of_memory<E: Sink>(err: &mut E) -> Status
+pub(crate) fn out_of_memory<E: Sink>(err: &mut E) -> Status
     ensures status { result ≡ Status.NoMemory }
     ensures said { Says (E.written err.old) (E.written err.new) (E.faults err.old) (E.faults err.new) memory_line }
 {
@@ -165,8 +166,8 @@ fn synth_command<F: Files, E: Sink>(
     ensures done_err { result ≡ Status.Done → E.written err.new ≡ E.written err.old }
     ensures cut { result ≡ Status.WriteFault → IsCut app.now directory.now (F.files files.old) (F.files files.new) (F.directories files.old) (F.directories files.new) (F.failed_write files.new) (E.written err.old) (E.written err.new) (E.faults err.old) (E.faults err.new) }
     ensures rose { result ≡ Status.WriteFault → Rose (F.write_faults files.old) (F.write_faults files.new) }
-    ensures kept_files { may_have_written result ≡ false → F.files files.new ≡ F.files files.old }
-    ensures kept_directories { may_have_written result ≡ false → F.directories files.new ≡ F.directories files.old }
+    ensures kept_files { is_of_writing result ≡ false → F.files files.new ≡ F.files files.old }
+    ensures kept_directories { is_of_writing result ≡ false → F.directories files.new ≡ F.directories files.old }
     ensures memory { result ≡ Status.NoMemory → Says (E.written err.old) (E.written err.new) (E.faults err.old) (E.faults err.new) memory_line }
 {
     match gather(alloc, app, files) {
@@ -191,7 +192,13 @@ fn bad_words<E: Sink>(err: &mut E) -> Status
 ///
 /// `synth APP OUTDIR` reads APP and makes the whole assembly in memory, with all names and lines; only then it makes the
 /// directory OUTDIR, takes `OUTDIR/manifest.json` out and writes the files in order, the manifest last. It writes nothing
-/// to `out`. Each answer but `Done` has its one line on `err`; a failed write of the line changes nothing else.
+/// to `out`.
+///
+/// `eval DIR VALUES` reads the assembly in DIR and then the file VALUES, evaluates each stack under the exports of those
+/// before it, makes the whole report and its line in memory, and only then prints it to `out`. It writes no file. Its
+/// status is `EvalFaults` exactly where a part of the report is a fault.
+///
+/// Each answer but `Done` and `EvalFaults` has its one line on `err`; a failed write of the line changes nothing else.
 pub fn run<F: Files, O: Sink, E: Sink>(
     alloc: Global,
     words: &[Text],
@@ -200,35 +207,44 @@ pub fn run<F: Files, O: Sink, E: Sink>(
     err: &mut E,
 ) -> Status
     // Bad words exactly where the words aren't plain.
-    ensures bad_words { MatchOption (command_of words.now) (result ≡ Status.BadWords) (λ _. is_of_synth result ≡ true) }
+    ensures bad_words { MatchOption (command_of words.now) (result ≡ Status.BadWords) (λ c. may_answer c result ≡ true) }
     ensures bad_words_line { result ≡ Status.BadWords → Says (E.written err.old) (E.written err.new) (E.faults err.old) (E.faults err.new) bad_words_line }
     // A read fault only where the count of failed reads rose and the kept name is the application's.
-    ensures read { result ≡ Status.ReadFault → IfSome (command_of words.now) (λ c. IsReadFault c.app (F.read_faults files.old) (F.read_faults files.new) (F.failed_read files.new) (E.written err.old) (E.written err.new) (E.faults err.old) (E.faults err.new)) }
+    ensures read { result ≡ Status.ReadFault → OnSynth (command_of words.now) (λ app _. IsReadFault app (F.read_faults files.old) (F.read_faults files.new) (F.failed_read files.new) (E.written err.old) (E.written err.new) (E.faults err.old) (E.faults err.new)) }
     // A fault of the application that is held, and the line names it.
-    ensures fault { result ≡ Status.AppFault → IfSome (command_of words.now) (λ c. IsAppFault (F.files files.old) c.app (E.written err.old) (E.written err.new) (E.faults err.old) (E.faults err.new)) }
+    ensures fault { result ≡ Status.AppFault → OnSynth (command_of words.now) (λ app _. IsAppFault (F.files files.old) app (E.written err.old) (E.written err.new) (E.faults err.old) (E.faults err.new)) }
     // An application without fault, and its assembly is written whole.
-    ensures done { result ≡ Status.Done → IfSome (command_of words.now) (λ c. IsDone c.app c.directory (F.files files.old) (F.files files.new) (F.directories files.old) (F.directories files.new)) }
+    ensures done { result ≡ Status.Done → OnSynth (command_of words.now) (λ app directory. IsDone app directory (F.files files.old) (F.files files.new) (F.directories files.old) (F.directories files.new)) }
     // Evaluating the written files gives each property its meaning in the construct tree, under all values, and no text or
     // key of a template has the beginning of a token's marker.
-    ensures meaning { result ≡ Status.Done → IfSome (command_of words.now) (λ c. MeaningIsKept c.app c.directory (F.files files.old) (F.files files.new)) }
-    ensures done_err { result ≡ Status.Done → E.written err.new ≡ E.written err.old }
+    ensures meaning { result ≡ Status.Done → OnSynth (command_of words.now) (λ app directory. MeaningIsKept app directory (F.files files.old) (F.files files.new)) }
+    ensures done_err { is_reported result ≡ true → E.written err.new ≡ E.written err.old }
     // An application without fault whose writing stopped at a call that failed; what stands, and the name in the line.
-    ensures cut { result ≡ Status.WriteFault → IfSome (command_of words.now) (λ c. IsCut c.app c.directory (F.files files.old) (F.files files.new) (F.directories files.old) (F.directories files.new) (F.failed_write files.new) (E.written err.old) (E.written err.new) (E.faults err.old) (E.faults err.new)) }
-    ensures rose { result ≡ Status.WriteFault → Rose (F.write_faults files.old) (F.write_faults files.new) }
-    // All other answers leave files and directories as they were; no answer touches `out`.
-    ensures kept_files { may_have_written result ≡ false → F.files files.new ≡ F.files files.old }
-    ensures kept_directories { may_have_written result ≡ false → F.directories files.new ≡ F.directories files.old }
-    ensures out { O.written out.new ≡ O.written out.old }
+    ensures cut { result ≡ Status.WriteFault → OnSynth (command_of words.now) (λ app directory. IsCut app directory (F.files files.old) (F.files files.new) (F.directories files.old) (F.directories files.new) (F.failed_write files.new) (E.written err.old) (E.written err.new) (E.faults err.old) (E.faults err.new)) }
+    ensures rose { result ≡ Status.WriteFault → OnSynth (command_of words.now) (λ _ _. Rose (F.write_faults files.old) (F.write_faults files.new)) }
+    // An assembly and values that can be used: the whole report is printed, with a fault in it or without.
+    ensures eval_done { result ≡ Status.Done → OnEval (command_of words.now) (λ directory values. IsReported false (F.files files.old) directory values (O.written out.old) (O.written out.new)) }
+    ensures eval_faults { result ≡ Status.EvalFaults → OnEval (command_of words.now) (λ directory values. IsReported true (F.files files.old) directory values (O.written out.old) (O.written out.new)) }
+    // A file that can't be used, all before it being without fault; the line says which, why and where.
+    ensures eval_bad { result ≡ Status.BadInput → OnEval (command_of words.now) (λ directory values. IsBadInput (F.files files.old) directory values (E.written err.old) (E.written err.new) (E.faults err.old) (E.faults err.new)) }
+    // A read fault only where the count of failed reads rose; the file is the next to be read, and the kept name.
+    ensures eval_read { result ≡ Status.ReadFault → OnEval (command_of words.now) (λ directory values. IsUnread (F.files files.old) directory values (F.read_faults files.old) (F.read_faults files.new) (F.failed_read files.new) (E.written err.old) (E.written err.new) (E.faults err.old) (E.faults err.new)) }
+    // A write fault only where the count of the stream rose, and it holds a part of the report, from its beginning.
+    ensures eval_part { result ≡ Status.WriteFault → OnEval (command_of words.now) (λ directory values. IsPartlyReported (F.files files.old) directory values (O.written out.old) (O.written out.new)) }
+    ensures eval_rose { result ≡ Status.WriteFault → OnEval (command_of words.now) (λ _ _. Rose (O.faults out.old) (O.faults out.new)) }
+    ensures eval_line { result ≡ Status.WriteFault → OnEval (command_of words.now) (λ _ _. Says (E.written err.old) (E.written err.new) (E.faults err.old) (E.faults err.new) (write_line (codes "-"))) }
+    // All other answers leave files, directories and the stream as they were.
+    ensures kept_files { may_have_written (command_of words.now) result ≡ false → F.files files.new ≡ F.files files.old }
+    ensures kept_directories { may_have_written (command_of words.now) result ≡ false → F.directories files.new ≡ F.directories files.old }
+    ensures out { may_have_printed (command_of words.now) result ≡ false → O.written out.new ≡ O.written out.old }
     ensures memory { result ≡ Status.NoMemory → Says (E.written err.old) (E.written err.new) (E.faults err.old) (E.faults err.new) memory_line }
-    // Where no call of the files fails, plain words are carried out, unless the application has a fault or memory is wanting.
-    ensures complete { OnSome (command_of words.now) (¬ (Rose (F.read_faults files.old) (F.read_faults files.new)) → ¬ (Rose (F.write_faults files.old) (F.write_faults files.new)) → IsComplete result) }
+    // Where no call of the outside fails, plain words are carried out, unless the input has a fault or memory is wanting.
+    ensures complete { OnSynth (command_of words.now) (λ _ _. ¬ (Rose (F.read_faults files.old) (F.read_faults files.new)) → ¬ (Rose (F.write_faults files.old) (F.write_faults files.new)) → IsComplete result) }
+    ensures eval_complete { OnEval (command_of words.now) (λ _ _. ¬ (Rose (F.read_faults files.old) (F.read_faults files.new)) → ¬ (Rose (O.faults out.old) (O.faults out.new)) → IsCompleteEval result) }
 {
-    let _untouched = out;
     match plain(words) {
         None => bad_words(err),
-        Some(command) => {
-            let (app, directory) = synth_words(command);
-            synth_command(alloc, app, directory, files, err)
-        }
+        Some(Command::Synth { app, dir }) => synth_command(alloc, app, dir, files, err),
+        Some(Command::Eval { dir, values }) => eval_command(alloc, dir, values, files, out, err),
     }
 }

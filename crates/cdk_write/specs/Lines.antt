@@ -22,6 +22,10 @@ unfoldable pub error_line : Code → List ℕ → List ℕ
 error_line code place =
     codes "cdkcore: error " ++ (decimal (code_number code) ++ 32 ∷ (code_name code ++ 32 ∷ (quoted place ++ 10 ∷ [])))
 
+-- of an assembly or a values file: what is wrong with it, which file, and the place in it
+unfoldable pub input_line : List ℕ → List ℕ → List ℕ → List ℕ
+input_line kind file place = codes "cdkcore: input " ++ (kind ++ 32 ∷ (quoted file ++ 32 ∷ (quoted place ++ 10 ∷ [])))
+
 -- The line is appended, or where a write on the stream has failed a part of it.
 abbrev pub Says : Option (List ℕ) → Option (List ℕ) → ℕ → ℕ → List ℕ → Type 0
 Says old new before now line =

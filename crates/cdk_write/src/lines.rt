@@ -1,6 +1,6 @@
 // The lines on the error stream. Each is made whole before its one write.
 ghost use Rattle.std.specs.Prelude.{◌≡◌, IfOk};
-ghost use Rattle.cdk_write.specs.Lines.{read_line, write_line, error_line, Says};
+ghost use Rattle.cdk_write.specs.Lines.{read_line, write_line, error_line, input_line, Says};
 
 use cdk_base::{Code, Text, json_text};
 use cdk_outside::Sink;
@@ -54,5 +54,18 @@ pub fn error_text(alloc: Global, code: Code, place: &str) -> Result<Text, AllocE
     let place = json_text(alloc, place)?;
     let place = place.as_str();
     let line = format!(in alloc; "cdkcore: error {number} {name} {place}\n")?;
+    Ok(Text::from_string(line))
+}
+
+#[tactic(auto, unfolding(crate::specs::Lines::input_line))]
+/// The line that names what is wrong with a file of an assembly or a values file, and the place in it.
+pub fn input_text(alloc: Global, kind: &str, file: &str, place: &str) -> Result<Text, AllocError>
+    ensures { IfOk result (λ line. line ≡ input_line kind.now file.now place.now) }
+{
+    let file = json_text(alloc, file)?;
+    let file = file.as_str();
+    let place = json_text(alloc, place)?;
+    let place = place.as_str();
+    let line = format!(in alloc; "cdkcore: input {kind} {file} {place}\n")?;
     Ok(Text::from_string(line))
 }
