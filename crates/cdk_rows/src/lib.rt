@@ -2,11 +2,17 @@
 #![tactic(auto)]
 
 #[cfg(test)]
+mod assemblies;
+#[cfg(test)]
 mod bucket;
 #[cfg(test)]
 mod documents;
 #[cfg(test)]
+mod evaluations;
+#[cfg(test)]
 mod failures;
+#[cfg(test)]
+mod long_inputs;
 #[cfg(test)]
 mod refusals;
 #[cfg(test)]
