@@ -30,15 +30,21 @@ fn app_template() -> &'static [u8] {
     b"{\"Resources\":{\"Role\":{\"Type\":\"AWS::IAM::Role\",\"Properties\":{\"Bucket\":{\"Fn::ImportValue\":\"Data:Arn\"},\"Name\":{\"Ref\":\"AWS::StackName\"}}}}}"
 }
 
-fn world(alloc: Global, files: &[(&str, &[u8])]) -> Result<World, AllocError> {
-    let mut memory = MemFiles::new(alloc, List::new(alloc), 10, 10)?;
+// These files, with the calls of files and of the output that fail.
+fn world(
+    alloc: Global,
+    files: &[(&str, &[u8])],
+    failing: &[u64],
+    failing_out: &[u64],
+) -> Result<World, AllocError> {
+    let mut memory = MemFiles::new(alloc, calls(alloc, failing)?, 10, 10)?;
     for file in files {
         memory.add(file.0, file.1)?;
     }
     Ok(World {
         files: memory,
-        out: MemSink::new(alloc, calls(alloc, &[])?, 4000)?,
-        err: MemSink::new(alloc, calls(alloc, &[])?, 200)?,
+        out: MemSink::new(alloc, calls(alloc, failing_out)?, 4000)?,
+        err: MemSink::new(alloc, List::new(alloc), 200)?,
     })
 }
 
@@ -50,7 +56,16 @@ pub struct Told {
 }
 
 pub fn evaluate(alloc: Global, files: &[(&str, &[u8])]) -> Result<Told, AllocError> {
-    let mut world = world(alloc, files)?;
+    evaluate_failing(alloc, files, &[], &[])
+}
+
+fn evaluate_failing(
+    alloc: Global,
+    files: &[(&str, &[u8])],
+    failing: &[u64],
+    failing_out: &[u64],
+) -> Result<Told, AllocError> {
+    let mut world = world(alloc, files, failing, failing_out)?;
     let status = run_words(alloc, &mut world, &["eval", "out", VALUES])?;
     let mut text = List::from_slice(alloc, world.out.bytes())?;
     for byte in world.err.bytes() {
@@ -90,6 +105,57 @@ fn an_import_of_another_stack(rt: HostRuntime) -> Result<(), Fail> {
     assert_eq!(rt;
         told.text.as_slice(),
         b"stack Data\nresource Bucket\noutput Arn = \"arn:b\"\nstack Shop-App\nresource Role\n  \"Bucket\" = \"arn:b\"\n  \"Name\" = \"Shop-App\"\n".as_slice()
+    );
+    Ok(())
+}
+
+// A read of the bucket's assembly or of the values that fails, by the call's number.
+fn unread(alloc: Global, call: u64) -> Result<Told, AllocError> {
+    let files = [
+        (MANIFEST, bucket::manifest()),
+        ("out/S.template.json", bucket::template()),
+        (VALUES, b"{}".as_slice()),
+    ];
+    evaluate_failing(alloc, &files, &[call], &[])
+}
+
+#[test]
+fn a_read_that_fails(rt: HostRuntime) -> Result<(), Fail> {
+    let alloc = rt.alloc();
+    let manifest = unread(alloc, 1)?;
+    assert!(rt; manifest.status == Status::ReadFault);
+    assert_eq!(rt;
+        manifest.text.as_slice(),
+        b"cdkcore: cannot read \"out/manifest.json\"\n".as_slice()
+    );
+    let template = unread(alloc, 2)?;
+    assert!(rt; template.status == Status::ReadFault);
+    assert_eq!(rt;
+        template.text.as_slice(),
+        b"cdkcore: cannot read \"out/S.template.json\"\n".as_slice()
+    );
+    let values = unread(alloc, 3)?;
+    assert!(rt; values.status == Status::ReadFault);
+    assert_eq!(rt;
+        values.text.as_slice(),
+        b"cdkcore: cannot read \"v.json\"\n".as_slice()
+    );
+    Ok(())
+}
+
+// The write fails after the first half of the report.
+#[test]
+fn an_output_that_fails(rt: HostRuntime) -> Result<(), Fail> {
+    let files = [
+        (MANIFEST, bucket::manifest()),
+        ("out/S.template.json", bucket::template()),
+        (VALUES, b"{}".as_slice()),
+    ];
+    let told = evaluate_failing(rt.alloc(), &files, &[], &[1])?;
+    assert!(rt; told.status == Status::WriteFault);
+    assert_eq!(rt;
+        told.text.as_slice(),
+        b"stack S\nresource Bucket\ncdkcore: cannot write \"-\"\n".as_slice()
     );
     Ok(())
 }
