@@ -1,5 +1,5 @@
 -- Small applications: their names, and what is wrong with them, computed by the definitions.
-use Rattle.std.proofs.Common.{◌≡◌, ℕ, List, [], ◌∷◌, codes, Option, Some, option_map, option_and_then, refl}
+use Rattle.std.proofs.Common.{◌≡◌, ℕ, List, [], ◌∷◌, codes, Option, Some, None, option_map, option_and_then, refl}
 use Rattle.std.specs.Fmt.{digits}
 use Rattle.serde_json.specs.Read.{read}
 use Rattle.serde_json.proofs.OnLiterals.{serde_json_on_literals}
@@ -9,7 +9,7 @@ use Rattle.cdk_language.specs.Application.{application_of}
 use Rattle.cdk_tree.specs.Placed.{Placed, constructs_of}
 use Rattle.cdk_tree.specs.declared.role.Found.{Found}
 use Rattle.cdk_stacks.specs.Claims.{found_at, name_findings}
-use Rattle.cdk_stacks.specs.Names.{stack_name, artifact_id}
+use Rattle.cdk_stacks.specs.Names.{artifact_id, logical_name, stack_name}
 
 abbrev tree : List ℕ → Option (List Placed)
 tree s = option_map constructs_of (option_and_then application_of (read s))
@@ -77,3 +77,42 @@ same_stack_name : wrong (codes "{\"app\":\"2\",\"children\":[{\"kind\":\"stage\"
     ≡ Some (found_at 3 SameName ∷ [])
 unfolding serde_json_on_literals digits block_words rounds compress hash_after digest_bytes md5
 same_stack_name = refl
+
+-- in the assembly of a stage `Tree` is free
+tree_in_a_stage : wrong (codes "{\"app\":\"2\",\"children\":[{\"kind\":\"stage\",\"id\":\"Default\",\"children\":[{\"kind\":\"stack\",\"id\":\"Tree\",\"children\":[]}]}]}")
+    ≡ Some []
+unfolding serde_json_on_literals digits
+tree_in_a_stage = refl
+
+-- a name that may not be is taken as well
+wrong_twice : wrong (codes "{\"app\":\"2\",\"children\":[{\"kind\":\"stack\",\"id\":\"S\",\"children\":[{\"kind\":\"resource\",\"id\":\"-\",\"type\":\"T\",\"properties\":{}},{\"kind\":\"resource\",\"id\":\"--\",\"type\":\"T\",\"properties\":{}}]}]}")
+    ≡ Some (found_at 2 BadName ∷ found_at 3 BadName ∷ found_at 3 SameName ∷ [])
+unfolding serde_json_on_literals digits
+wrong_twice = refl
+
+abbrev nested : List ℕ
+nested = codes "{\"app\":\"2\",\"children\":[{\"kind\":\"stage\",\"id\":\"A\",\"children\":[{\"kind\":\"group\",\"id\":\"H\",\"children\":[{\"kind\":\"stage\",\"id\":\"1\",\"children\":[{\"kind\":\"stack\",\"id\":\"X\",\"children\":[{\"kind\":\"group\",\"id\":\"Default\",\"children\":[{\"kind\":\"resource\",\"id\":\"R\",\"type\":\"T\",\"properties\":{}}]}]}]}]}]}]}"
+
+-- a stage's id has a stack name's form, though the stage's name would have it anyway
+nested_stage : wrong nested ≡ Some (found_at 3 BadName ∷ [])
+unfolding serde_json_on_literals digits block_words rounds compress hash_after digest_bytes md5
+nested_stage = refl
+
+-- groups give no part of a stack's name
+nested_stack : option_map (λ cs. stack_name cs 4) (tree nested) ≡ Some (Some (codes "A-1-X"))
+unfolding serde_json_on_literals digits
+nested_stack = refl
+
+nested_assembly : option_map (λ cs. artifact_id cs 3) (tree nested) ≡ Some (Some (codes "assembly-A-1"))
+unfolding serde_json_on_literals digits
+nested_assembly = refl
+
+-- ids from below the stack alone
+nested_resource : option_map (λ cs. logical_name cs 6) (tree nested) ≡ Some (Some (codes "R"))
+unfolding serde_json_on_literals digits
+nested_resource = refl
+
+-- a construct of no such kind has none of these names
+nameless_group : option_map (λ cs. logical_name cs 2) (tree nested) ≡ Some None
+unfolding serde_json_on_literals digits
+nameless_group = refl

@@ -25,7 +25,7 @@ pub struct Names {
 
 impl Names {
     /// The names of a tree's constructs, of whatever form.
-    pub fn of(alloc: Global, tree: &Tree) -> Result<Names, AllocError>
+    pub(crate) fn of(alloc: Global, tree: &Tree) -> Result<Names, AllocError>
         ensures { IfOk result (λ names. AreNamesOf names (constructs tree.now)) }
     {
         let mut each = List::new(alloc);
