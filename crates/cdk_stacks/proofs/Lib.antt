@@ -1,0 +1,5 @@
+mod Examples
+pub mod Tests
+pub mod Within
+pub mod ClaimLemmas
+pub mod NameLaws

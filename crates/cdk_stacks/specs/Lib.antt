@@ -1,0 +1,5 @@
+pub mod Claims
+pub mod Laws
+pub mod Made
+pub mod Names
+pub mod Taken
