@@ -1,0 +1,11 @@
+//! The applications that are carried so far: one stack of literals in any groups.
+#![tactic(auto)]
+
+mod carried;
+mod depths;
+mod parts;
+mod sizes;
+#[cfg(test)]
+mod tests;
+
+pub use carried::is_carried;
