@@ -1,6 +1,6 @@
 // Templates that are long or deep, and files that are cut short.
 use crate::bucket;
-use crate::evaluations::{evaluate, one_stack};
+use crate::evaluations::{Told, evaluate, one_stack};
 use cdk_tool::Status;
 use std::alloc::{AllocError, Global};
 use std::test::Fail;
@@ -33,16 +33,26 @@ fn doubled(alloc: Global, count: u32) -> Result<String, AllocError> {
     )
 }
 
+// One stack of the template. All files are borrowed for one lifetime, since they stand in one array.
+fn evaluate_template<'a>(
+    alloc: Global,
+    manifest: &'a [u8],
+    template: &'a [u8],
+    values: &'a [u8],
+) -> Result<Told, AllocError> {
+    let files = [
+        ("out/manifest.json", manifest),
+        ("out/S.json", template),
+        ("v.json", values),
+    ];
+    evaluate(alloc, &files)
+}
+
 #[test]
 fn a_chain_of_conditions(rt: HostRuntime) -> Result<(), Fail> {
     let alloc = rt.alloc();
     let template = chained(alloc, 4999)?;
-    let files = [
-        ("out/manifest.json", one_stack()),
-        ("out/S.json", template.as_bytes()),
-        ("v.json", b"{}".as_slice()),
-    ];
-    let told = evaluate(alloc, &files)?;
+    let told = evaluate_template(alloc, one_stack(), template.as_bytes(), b"{}")?;
     assert!(rt; told.status == Status::Done);
     assert_eq!(rt; told.text.as_slice(), b"stack S\nresource R\n".as_slice());
     Ok(())
@@ -52,12 +62,7 @@ fn a_chain_of_conditions(rt: HostRuntime) -> Result<(), Fail> {
 fn texts_inside_one_another(rt: HostRuntime) -> Result<(), Fail> {
     let alloc = rt.alloc();
     let template = doubled(alloc, 40)?;
-    let files = [
-        ("out/manifest.json", one_stack()),
-        ("out/S.json", template.as_bytes()),
-        ("v.json", b"{}".as_slice()),
-    ];
-    let told = evaluate(alloc, &files)?;
+    let told = evaluate_template(alloc, one_stack(), template.as_bytes(), b"{}")?;
     assert!(rt; told.status == Status::Done);
     assert_eq!(rt;
         told.text.as_slice(),
