@@ -1,0 +1,3 @@
+mod Examples
+pub mod FillLemmas
+pub mod TreeLemmas

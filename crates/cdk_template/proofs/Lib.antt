@@ -1,0 +1,4 @@
+mod Examples
+pub mod LiteralLemmas
+pub mod CountLemmas
+pub mod EntryLemmas

@@ -1,0 +1,159 @@
+-- The template of a stack, of its constructs in walk order (CloudFormation's template anatomy; the metadata's path is AWS CDK's).
+use Rattle.std.specs.Prelude.{ℕ, ◌==◌, ◌&&◌, List, [], ◌∷◌, filter, length, Bool, true, false, Option, Some, None, option_map, codes}
+use Rattle.std.specs.List.{range_with_len}
+use Rattle.serde_json.specs.Data.{Data, string, array, object, Items, no_items, item, Members, no_members, member, put}
+use Rattle.cdk_language.specs.Condition.{Condition}
+use Rattle.cdk_language.specs.Construct as language
+use Rattle.cdk_language.specs.Construct.{Body, ResourceBody, ParameterBody, OutputBody}
+use Rattle.cdk_language.specs.Expression.{Expression}
+use Rattle.cdk_language.specs.declared.construct.ParameterForm.{ParameterForm}
+use Rattle.cdk_language.specs.declared.construct.ParameterForm.TheVariants as forms
+use Rattle.cdk_language.specs.declared.construct.Policy.{Policy}
+use Rattle.cdk_language.specs.declared.construct.Policy.TheVariants as policies
+use Rattle.cdk_tree.specs.Expected.{is_resource, is_parameter, is_condition, is_mapping}
+use Rattle.cdk_tree.specs.Placed.{Placed, construct_at}
+
+-- How a stack's constructs are spelled in its template, by their numbers in the tree.
+pub record Spelling : Type 0 where
+  -- the logical name of an element
+  pub logical : ℕ → List ℕ
+  -- the value of an expression of a construct, and of a condition
+  pub value : ℕ → Expression → Data
+  pub condition : ℕ → Condition → Data
+  -- the logical names that a resource waits for
+  pub depends_on : ℕ → List (List ℕ)
+  -- the logical name of a condition at a path
+  pub named : List ℕ → List ℕ
+  -- outputs that no construct of the application is, by their logical names
+  pub generated : List (List ℕ × Data)
+
+-- ---- members
+
+-- the member where it is given, before the rest
+abbrev pub if_given : List ℕ → Option Data → Members → Members
+if_given k None rest = rest
+if_given k (Some d) rest = member k d rest
+
+-- the object of these members, where there are any
+abbrev pub unless_empty : Members → Option Data
+unless_empty no_members = None
+unless_empty (member k d ms) = Some (object (member k d ms))
+
+abbrev pub texts : List (List ℕ) → Items
+texts [] = no_items
+texts (t ∷ ts) = item (string t) (texts ts)
+
+abbrev pub unless_none : List (List ℕ) → Option Data
+unless_none [] = None
+unless_none (t ∷ ts) = Some (array (texts (t ∷ ts)))
+
+abbrev pub non_empty : Option (List ℕ) → Option Data
+non_empty None = None
+non_empty (Some []) = None
+non_empty (Some (c ∷ s)) = Some (string (c ∷ s))
+
+abbrev pub policy_name : Policy → List ℕ
+policy_name policies.Delete = codes "Delete"
+policy_name policies.Retain = codes "Retain"
+policy_name policies.Snapshot = codes "Snapshot"
+
+abbrev pub form_name : ParameterForm → List ℕ
+form_name forms.Text = codes "String"
+form_name forms.Number = codes "Number"
+form_name forms.List = codes "CommaDelimitedList"
+
+-- the members of an object
+abbrev pub members_of : Data → Members
+members_of (object ms) = ms
+members_of d = no_members
+
+-- ---- entries: keys in byte order
+
+abbrev pub path_metadata : List ℕ → Data
+path_metadata path = object (member (codes "aws:cdk:path") (string path) no_members)
+
+abbrev pub resource_entry : Spelling → ℕ → List ℕ → ResourceBody → Data
+resource_entry s n path r =
+    object (if_given (codes "Condition") (option_map (λ t. string (s.named t)) r.condition)
+    (if_given (codes "DeletionPolicy") (option_map (λ p. string (policy_name p)) r.deletion)
+    (if_given (codes "DependsOn") (unless_none (s.depends_on n))
+    (member (codes "Metadata") (path_metadata path)
+    (if_given (codes "Properties") (unless_empty (members_of (s.value n r.properties)))
+    (member (codes "Type") (string r.resource_type)
+    (if_given (codes "UpdateReplacePolicy") (option_map (λ p. string (policy_name p)) r.replace)
+    no_members)))))))
+
+abbrev pub parameter_entry : ParameterBody → Data
+parameter_entry p =
+    object (if_given (codes "Default") (option_map string p.default)
+    (if_given (codes "Description") (option_map string p.description)
+    (member (codes "Type") (string (form_name p.form))
+    no_members)))
+
+abbrev pub export_name : List ℕ → Data
+export_name t = object (member (codes "Name") (string t) no_members)
+
+abbrev pub output_entry : Spelling → ℕ → OutputBody → Data
+output_entry s n o =
+    object (if_given (codes "Condition") (option_map (λ t. string (s.named t)) o.condition)
+    (if_given (codes "Description") (option_map string o.description)
+    (if_given (codes "Export") (option_map export_name o.export)
+    (member (codes "Value") (s.value n o.value)
+    no_members))))
+
+-- what stands in a template for a construct of a path
+abbrev pub entry_in : Spelling → ℕ → List ℕ → Body → Data
+entry_in s n path (language.resource r) = resource_entry s n path r
+entry_in s n path (language.parameter p) = parameter_entry p
+entry_in s n path (language.condition_body c) = s.condition n c
+entry_in s n path (language.mapping m) = object m
+entry_in s n path (language.output o) = output_entry s n o
+entry_in s n path b = object no_members
+
+abbrev pub entry_of : Spelling → ℕ → Placed → Data
+entry_of s n c = entry_in s n c.path c.body
+
+-- ---- the template
+
+abbrev pub is_output : Body → Bool
+is_output (language.output o) = true
+is_output b = false
+
+abbrev pub is_in : ℕ → Option ℕ → Bool
+is_in stack None = false
+is_in stack (Some n) = n == stack
+
+-- those of the numbers that are a stack's constructs of a kind
+abbrev pub among : List Placed → ℕ → (Body → Bool) → List ℕ → List ℕ
+among cs stack kind ns = filter (λ n. is_in stack (construct_at cs n).stack && kind (construct_at cs n).body) ns
+
+-- a stack's constructs of a kind, in walk order
+abbrev pub of_kind : List Placed → ℕ → (Body → Bool) → List ℕ
+of_kind cs stack kind = among cs stack kind (range_with_len 0 (length cs))
+
+-- the entries of constructs put in, one after another, by their logical names
+abbrev pub filled : (ℕ → List ℕ) → (ℕ → Data) → List ℕ → Members → Members
+filled name entry [] ms = ms
+filled name entry (n ∷ ns) ms = filled name entry ns (put (name n) (entry n) ms)
+
+abbrev pub with_generated : List (List ℕ × Data) → Members → Members
+with_generated [] ms = ms
+with_generated (o ∷ os) ms = with_generated os (put o.0 o.1 ms)
+
+abbrev pub section_of : List Placed → Spelling → ℕ → (Body → Bool) → Members
+section_of cs s stack kind = filled s.logical (λ n. entry_of s n (construct_at cs n)) (of_kind cs stack kind) no_members
+
+abbrev pub description_of : Body → Option (List ℕ)
+description_of (language.stack d) = d
+description_of b = None
+
+-- each section where it isn't empty
+abbrev pub template_of : List Placed → Spelling → ℕ → Data
+template_of cs s stack =
+    object (if_given (codes "Conditions") (unless_empty (section_of cs s stack is_condition))
+    (if_given (codes "Description") (non_empty (description_of (construct_at cs stack).body))
+    (if_given (codes "Mappings") (unless_empty (section_of cs s stack is_mapping))
+    (if_given (codes "Outputs") (unless_empty (with_generated s.generated (section_of cs s stack is_output)))
+    (if_given (codes "Parameters") (unless_empty (section_of cs s stack is_parameter))
+    (if_given (codes "Resources") (unless_empty (section_of cs s stack is_resource))
+    no_members))))))
