@@ -7,16 +7,19 @@ use Rattle.serde_json.specs.Data.{Data, string, object, Members, no_members, mem
 use Rattle.serde_json.specs.View.{view, members_view}
 use Rattle.serde_json.specs.declared.value.Value.{Value, Object}
 use Rattle.serde_json.proofs.Views.{view-Object}
+use Rattle.cdk_carried.specs.Carried.{has_no_items, is_carried_body, is_carried_expression}
 use Rattle.cdk_language.specs.Construct as language
 use Rattle.cdk_language.specs.Construct.{Body, ResourceBody}
+use Rattle.cdk_meaning.specs.Sections.{filled}
 use Rattle.cdk_tree.specs.Expected.{is_resource, is_parameter, is_condition, is_mapping}
 use Rattle.cdk_tree.specs.Placed.{Placed, construct_at}
 use Rattle.cdk_tree.proofs.Tests.{and_left, and_right}
-use Rattle.cdk_template.specs.Carried.{are_carried, has_none, is_carried, is_carried_body, spelling_of}
+use Rattle.cdk_template.specs.Carried.{spelling_of}
 use Rattle.cdk_template.specs.Entries.{put_given, resource_in, with_entry}
-use Rattle.cdk_template.specs.Literals.{is_literal, literal_of}
-use Rattle.cdk_template.specs.Template.{among, description_of, entry_in, entry_of, filled, if_given, is_in, is_output, members_of, non_empty, path_metadata, policy_name, resource_entry, section_of, template_of, unless_empty}
+use Rattle.cdk_template.specs.Literals.{literal_of}
+use Rattle.cdk_template.specs.Template.{among, description_of, entry_in, entry_of, if_given, is_in, is_output, members_of, non_empty, path_metadata, policy_name, resource_entry, section_of, template_of, unless_empty}
 use Rattle.cdk_template.proofs.CountLemmas.{and_false}
+use Rattle.cdk_written.specs.Placed.{are_carried, is_carried}
 
 -- ---- members
 
@@ -51,11 +54,11 @@ section_members (Some d) (Some r) = refl
 pub carried_at : (cs : List Placed) (n : ℕ) → are_carried cs ≡ true → is_carried_body (construct_at cs n).body ≡ true
 carried_at [] zero h = refl
 carried_at [] (suc n) h = refl
-carried_at (c ∷ cs) zero h = and_right (has_none c.head.depends) (is_carried_body c.body) (and_left (is_carried c) (list_all is_carried cs) h)
+carried_at (c ∷ cs) zero h = and_right (has_no_items c.head.depends) (is_carried_body c.body) (and_left (is_carried c) (list_all is_carried cs) h)
 carried_at (c ∷ cs) (suc n) h = carried_at cs n (and_right (is_carried c) (list_all is_carried cs) h)
 
 -- none is a condition, mapping, parameter or output
-other_kinds : (b : Body) → is_carried_body b ≡ true → (is_condition b ≡ false) × (is_mapping b ≡ false) × (is_parameter b ≡ false) × (is_output b ≡ false)
+pub other_kinds : (b : Body) → is_carried_body b ≡ true → (is_condition b ≡ false) × (is_mapping b ≡ false) × (is_parameter b ≡ false) × (is_output b ≡ false)
 other_kinds language.root h = (refl, refl, refl, refl)
 other_kinds language.stage h = (refl, refl, refl, refl)
 other_kinds (language.stack d) h = (refl, refl, refl, refl)
@@ -67,14 +70,14 @@ other_kinds (language.mapping m) h = absurd (true≢false (sym h))
 other_kinds (language.output o) h = absurd (true≢false (sym h))
 other_kinds (language.lazy e) h = (refl, refl, refl, refl)
 
-none_among : (cs : List Placed) (stack : ℕ) (kind : Body → Bool) (ns : List ℕ) → ((n : ℕ) → kind (construct_at cs n).body ≡ false) → among cs stack kind ns ≡ []
+pub none_among : (cs : List Placed) (stack : ℕ) (kind : Body → Bool) (ns : List ℕ) → ((n : ℕ) → kind (construct_at cs n).body ≡ false) → among cs stack kind ns ≡ []
 none_among cs stack kind [] none = refl
 none_among cs stack kind (n ∷ ns) none =
     let inside = is_in stack (construct_at cs n).stack in
     let rest = among cs stack kind ns in
     ap (λ t. cond (inside && t) (n ∷ rest) rest) (none n) ∙ ap (λ t. cond t (n ∷ rest) rest) (and_false inside) ∙ none_among cs stack kind ns none
 
-empty_section : (cs : List Placed) (stack : ℕ) (kind : Body → Bool) → ((n : ℕ) → kind (construct_at cs n).body ≡ false) → section_of cs (spelling_of cs) stack kind ≡ no_members
+pub empty_section : (cs : List Placed) (stack : ℕ) (kind : Body → Bool) → ((n : ℕ) → kind (construct_at cs n).body ≡ false) → section_of cs (spelling_of cs) stack kind ≡ no_members
 empty_section cs stack kind none =
     ap (λ ns. filled (spelling_of cs).logical (λ n. entry_of (spelling_of cs) n (construct_at cs n)) ns no_members) (none_among cs stack kind _ none)
 
@@ -84,11 +87,12 @@ with_sections d c m o p r =
     object (if_given (codes "Conditions") (unless_empty c) (if_given (codes "Description") d (if_given (codes "Mappings") (unless_empty m)
     (if_given (codes "Outputs") (unless_empty o) (if_given (codes "Parameters") (unless_empty p) (if_given (codes "Resources") (unless_empty r) no_members))))))
 
-pub carried_template : (cs : List Placed) (stack : ℕ) → are_carried cs ≡ true
-    → object (put_given (codes "Resources") (unless_empty (section_of cs (spelling_of cs) stack is_resource)) (put_given (codes "Description") (non_empty (description_of (construct_at cs stack).body)) no_members))
+-- the template without the sections that are empty
+pub plain_template : (cs : List Placed) (stack : ℕ) → are_carried cs ≡ true
+    → object (if_given (codes "Description") (non_empty (description_of (construct_at cs stack).body)) (if_given (codes "Resources") (unless_empty (section_of cs (spelling_of cs) stack is_resource)) no_members))
     ≡ template_of cs (spelling_of cs) stack
 unfolding with_sections
-carried_template cs stack h =
+plain_template cs stack h =
     let s = spelling_of cs in
     let d = non_empty (description_of (construct_at cs stack).body) in
     let r = section_of cs s stack is_resource in
@@ -96,11 +100,16 @@ carried_template cs stack h =
     let m : section_of cs s stack is_mapping ≡ no_members = empty_section cs stack is_mapping (λ n. (other_kinds (construct_at cs n).body (carried_at cs n h)).1) in
     let p : section_of cs s stack is_parameter ≡ no_members = empty_section cs stack is_parameter (λ n. (other_kinds (construct_at cs n).body (carried_at cs n h)).2) in
     let o : section_of cs s stack is_output ≡ no_members = empty_section cs stack is_output (λ n. (other_kinds (construct_at cs n).body (carried_at cs n h)).3) in
-    ap object (section_members d (unless_empty r))
-    ∙ ap (λ x. with_sections d x no_members no_members no_members r) (sym c)
+    ap (λ x. with_sections d x no_members no_members no_members r) (sym c)
     ∙ ap (λ x. with_sections d (section_of cs s stack is_condition) x no_members no_members r) (sym m)
     ∙ ap (λ x. with_sections d (section_of cs s stack is_condition) (section_of cs s stack is_mapping) x no_members r) (sym o)
     ∙ ap (λ x. with_sections d (section_of cs s stack is_condition) (section_of cs s stack is_mapping) (section_of cs s stack is_output) x r) (sym p)
+
+pub carried_template : (cs : List Placed) (stack : ℕ) → are_carried cs ≡ true
+    → object (put_given (codes "Resources") (unless_empty (section_of cs (spelling_of cs) stack is_resource)) (put_given (codes "Description") (non_empty (description_of (construct_at cs stack).body)) no_members))
+    ≡ template_of cs (spelling_of cs) stack
+carried_template cs stack h =
+    ap object (section_members (non_empty (description_of (construct_at cs stack).body)) (unless_empty (section_of cs (spelling_of cs) stack is_resource))) ∙ plain_template cs stack h
 
 -- ---- entries of resources
 
@@ -161,12 +170,25 @@ with_resource cs stack n ms r inside h =
 pub carried_resource : (b : Body) (r : ResourceBody) → resource_in b ≡ Some r → is_carried_body b ≡ true → is_carried_body (language.resource r) ≡ true
 carried_resource b r h carried = ap is_carried_body (sym (is_the_resource b r h)) ∙ carried
 
-pub literal_properties : (r : ResourceBody) → is_carried_body (language.resource r) ≡ true → is_literal r.properties ≡ true
-literal_properties r h = and_right (is_none r.condition) (is_literal r.properties) h
+pub literal_properties : (r : ResourceBody) → is_carried_body (language.resource r) ≡ true → is_carried_expression r.properties ≡ true
+literal_properties r h = and_right (is_none r.condition) (is_carried_expression r.properties) h
 
 none_is : {A : Type 0} (o : Option A) → is_none o ≡ true → o ≡ None
 none_is None h = refl
 none_is (Some x) h = absurd (true≢false (sym h))
+
+-- the entry without a condition
+pub plain_entry : (cs : List Placed) (n : ℕ) (path : List ℕ) (r : ResourceBody) → is_carried_body (language.resource r) ≡ true
+    → object (if_given (codes "DeletionPolicy") (option_map (λ p. string (policy_name p)) r.deletion) (member (codes "Metadata") (path_metadata path)
+    (if_given (codes "Properties") (unless_empty (members_of (literal_of r.properties))) (member (codes "Type") (string r.resource_type)
+    (if_given (codes "UpdateReplacePolicy") (option_map (λ p. string (policy_name p)) r.replace) no_members)))))
+    ≡ resource_entry (spelling_of cs) n path r
+plain_entry cs n path r h =
+    let d = option_map (λ p. string (policy_name p)) r.deletion in
+    let u = option_map (λ p. string (policy_name p)) r.replace in
+    let p = unless_empty (members_of (literal_of r.properties)) in
+    let rest = if_given (codes "DeletionPolicy") d (member (codes "Metadata") (path_metadata path) (if_given (codes "Properties") p (member (codes "Type") (string r.resource_type) (if_given (codes "UpdateReplacePolicy") u no_members)))) in
+    ap (λ o. object (if_given (codes "Condition") (option_map (λ t. string []) o) rest)) (sym (none_is r.condition (and_left (is_none r.condition) (is_carried_expression r.properties) h)))
 
 pub carried_entry : (cs : List Placed) (n : ℕ) (path : List ℕ) (r : ResourceBody) → is_carried_body (language.resource r) ≡ true
     → object (put_given (codes "UpdateReplacePolicy") (option_map (λ p. string (policy_name p)) r.replace) (put (codes "Type") (string r.resource_type)
@@ -177,6 +199,4 @@ carried_entry cs n path r h =
     let d = option_map (λ p. string (policy_name p)) r.deletion in
     let u = option_map (λ p. string (policy_name p)) r.replace in
     let p = unless_empty (members_of (literal_of r.properties)) in
-    let rest = if_given (codes "DeletionPolicy") d (member (codes "Metadata") (path_metadata path) (if_given (codes "Properties") p (member (codes "Type") (string r.resource_type) (if_given (codes "UpdateReplacePolicy") u no_members)))) in
-    ap object (entry_members d p u (path_metadata path) (string r.resource_type))
-    ∙ ap (λ o. object (if_given (codes "Condition") (option_map (λ t. string []) o) rest)) (sym (none_is r.condition (and_left (is_none r.condition) (is_literal r.properties) h)))
+    ap object (entry_members d p u (path_metadata path) (string r.resource_type)) ∙ plain_entry cs n path r h

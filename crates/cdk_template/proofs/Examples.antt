@@ -8,10 +8,11 @@ use Rattle.cdk_language.specs.Application.{application_of}
 use Rattle.cdk_language.specs.Expression.{object, field, no_fields, whole}
 use Rattle.cdk_tree.specs.Expected.{is_resource}
 use Rattle.cdk_tree.specs.Placed.{Placed, constructs_of}
-use Rattle.cdk_template.specs.Carried.{are_carried, spelling_of}
+use Rattle.cdk_template.specs.Carried.{spelling_of}
 use Rattle.cdk_template.specs.Counts.{count_findings, count_of}
 use Rattle.cdk_template.specs.Literals.{literal_of}
 use Rattle.cdk_template.specs.Template.{template_of}
+use Rattle.cdk_written.specs.Placed.{are_carried}
 
 abbrev tree : List ℕ → Option (List Placed)
 tree s = option_map constructs_of (option_and_then application_of (read s))

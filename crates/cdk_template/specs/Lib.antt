@@ -4,3 +4,4 @@ pub mod Carried
 pub mod Entries
 pub mod Counts
 pub mod Room
+pub mod Laws

@@ -1,6 +1,6 @@
 -- What a literal expression of an application means, and the JSON that it is rendered as (own: of two fields of one key the later counts,
--- as in JSON, and a field's place is that of its key among the keys' bytes).
-use Rattle.std.specs.Prelude.{ℕ, List, [], Bool, true, false, ◌&&◌}
+-- as in JSON, and a field's place is that of its key among the keys' bytes). The expressions that are literals are those that are carried.
+use Rattle.std.specs.Prelude.{ℕ, List, []}
 use Rattle.std.specs.Ordering.{nat_cmp, match_ordering}
 use Rattle.std.specs.Cmp.Lexicographic.{slice_cmp}
 use Rattle.serde_json.specs.Data.{Data}
@@ -8,25 +8,6 @@ use Rattle.cdk_language.specs.Expression as expression
 use Rattle.cdk_language.specs.Expression.{Expression, Expressions}
 use Rattle.cdk_meaning.specs.Plain.{Plain, text, whole, truth, list_of, object_of, Plains, no_plains, plain, Fields, no_fields, field}
 use Rattle.cdk_meaning.specs.Rendered.{Homes, Local, rendered}
-
--- ---- literals: texts, whole numbers, truth values, and arrays and objects of them
-
-abbrev mutual
-  pub is_literal : Expression → Bool
-  is_literal (expression.text s) = true
-  is_literal (expression.whole n) = true
-  is_literal (expression.truth b) = true
-  is_literal (expression.list es) = are_literals es
-  is_literal (expression.object fs) = are_literal_fields fs
-  is_literal e = false
-
-  pub are_literals : Expressions → Bool
-  are_literals expression.no_expressions = true
-  are_literals (expression.expression e es) = is_literal e && are_literals es
-
-  pub are_literal_fields : expression.Fields → Bool
-  are_literal_fields expression.no_fields = true
-  are_literal_fields (expression.field k e fs) = is_literal e && are_literal_fields fs
 
 -- ---- what they mean
 

@@ -10,6 +10,7 @@ use Rattle.cdk_language.specs.declared.construct.ParameterForm.{ParameterForm}
 use Rattle.cdk_language.specs.declared.construct.ParameterForm.TheVariants as forms
 use Rattle.cdk_language.specs.declared.construct.Policy.{Policy}
 use Rattle.cdk_language.specs.declared.construct.Policy.TheVariants as policies
+use Rattle.cdk_meaning.specs.Sections.{filled}
 use Rattle.cdk_tree.specs.Expected.{is_resource, is_parameter, is_condition, is_mapping}
 use Rattle.cdk_tree.specs.Placed.{Placed, construct_at}
 
@@ -131,15 +132,11 @@ among cs stack kind ns = filter (λ n. is_in stack (construct_at cs n).stack && 
 abbrev pub of_kind : List Placed → ℕ → (Body → Bool) → List ℕ
 of_kind cs stack kind = among cs stack kind (range_with_len 0 (length cs))
 
--- the entries of constructs put in, one after another, by their logical names
-abbrev pub filled : (ℕ → List ℕ) → (ℕ → Data) → List ℕ → Members → Members
-filled name entry [] ms = ms
-filled name entry (n ∷ ns) ms = filled name entry ns (put (name n) (entry n) ms)
-
 abbrev pub with_generated : List (List ℕ × Data) → Members → Members
 with_generated [] ms = ms
 with_generated (o ∷ os) ms = with_generated os (put o.0 o.1 ms)
 
+-- the entries of a kind, by their logical names
 abbrev pub section_of : List Placed → Spelling → ℕ → (Body → Bool) → Members
 section_of cs s stack kind = filled s.logical (λ n. entry_of s n (construct_at cs n)) (of_kind cs stack kind) no_members
 

@@ -1,9 +1,10 @@
 // What stands in a template for a resource.
 ghost use Rattle.std.specs.Prelude.{◌≡◌, ℕ, ◌<◌, List, length, IfOk, IsTrue};
 ghost use Rattle.serde_json.specs.View.{view};
+ghost use Rattle.cdk_carried.specs.Carried.{is_carried_body};
 ghost use Rattle.cdk_language.specs.Construct.{resource as resource_body, resource_view};
 ghost use Rattle.cdk_tree.specs.Placed.{Placed};
-ghost use Rattle.cdk_template.specs.Carried.{is_carried_body, spelling_of};
+ghost use Rattle.cdk_template.specs.Carried.{spelling_of};
 ghost use Rattle.cdk_template.specs.Template.{path_metadata as spec_path_metadata, resource_entry as spec_resource_entry};
 
 use crate::literal::literal_value;

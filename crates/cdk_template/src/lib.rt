@@ -3,11 +3,15 @@
 
 mod counts;
 mod entries;
+mod laws;
 mod literal;
 mod members;
 mod room;
 mod sections;
+#[cfg(test)]
+mod tests;
 
 pub use counts::check_counts;
+pub use laws::{literals_are_whole, templates_are_whole};
 pub use literal::literal_value;
 pub use sections::template;

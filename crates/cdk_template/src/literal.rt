@@ -2,10 +2,11 @@
 ghost use Rattle.std.specs.Prelude.{◌≡◌, IfOk, IsTrue};
 ghost use Rattle.serde_json.specs.Data.{number};
 ghost use Rattle.serde_json.specs.View.{view as json_view, items_view, members_view};
+ghost use Rattle.cdk_carried.specs.Carried.{is_carried_expression};
 ghost use Rattle.cdk_language.specs.Expression.{view, expressions_view, fields_view};
 ghost use Rattle.cdk_meaning.specs.Plain.{num_of, no_fields};
 ghost use Rattle.cdk_meaning.specs.Rendered.{rendered_items, rendered_fields};
-ghost use Rattle.cdk_template.specs.Literals.{is_literal, literal_of, no_homes, plains_of, with_fields};
+ghost use Rattle.cdk_template.specs.Literals.{literal_of, no_homes, plains_of, with_fields};
 
 use cdk_base::{List, Map, Value};
 use cdk_language::{Expr, Field};
@@ -76,7 +77,7 @@ fn members_of(alloc: Global, fields: &List<Field>) -> Result<Map, AllocError>
 ///
 /// It answers an error where no memory is found, and for a whole number that isn't within 64 bits, which no document has.
 pub fn literal_value(alloc: Global, e: &Expr) -> Result<Value, AllocError>
-    requires { IsTrue (is_literal (view e.now)) }
+    requires { IsTrue (is_carried_expression (view e.now)) }
     ensures { IfOk result (λ v. json_view v ≡ literal_of (view e.now)) }
 {
     value_of(alloc, e)

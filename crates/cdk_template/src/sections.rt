@@ -7,9 +7,10 @@ ghost use Rattle.cdk_tree.specs.Placed.{Placed};
 ghost use Rattle.cdk_tree.specs.TreeView.{constructs};
 ghost use Rattle.cdk_stacks.specs.Made.{AreNamesOf};
 ghost use Rattle.cdk_stacks.specs.Names.{logical_name as spec_logical_name};
-ghost use Rattle.cdk_template.specs.Carried.{are_carried, spelling_of};
+ghost use Rattle.cdk_template.specs.Carried.{spelling_of};
 ghost use Rattle.cdk_template.specs.Entries.{resource_in as spec_resource_in, with_entry};
 ghost use Rattle.cdk_template.specs.Template.{description_of, non_empty, section_of, template_of};
+ghost use Rattle.cdk_written.specs.Placed.{are_carried};
 
 use crate::counts::is_in;
 use crate::entries::resource_entry;

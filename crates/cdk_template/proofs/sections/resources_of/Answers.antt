@@ -3,6 +3,7 @@ use Rattle.std.specs.Prelude.{nat_lt}
 use Rattle.std.specs.List.{range_with_len}
 use Rattle.serde_json.specs.Data.{Members}
 use Rattle.serde_json.specs.View.{members_view}
+use Rattle.cdk_meaning.specs.Sections.{filled}
 use Rattle.cdk_tree.specs.Expected.{is_resource}
 use Rattle.cdk_tree.specs.Placed.{construct_at}
 use Rattle.cdk_tree.specs.TreeView.{constructs}
@@ -10,7 +11,7 @@ use Rattle.cdk_stacks.proofs.Tests.{range_rest}
 use Rattle.cdk_stacks.proofs.Within.{id_is}
 use Rattle.cdk_template.specs.Carried.{spelling_of}
 use Rattle.cdk_template.specs.Entries.{with_entry}
-use Rattle.cdk_template.specs.Template.{among, entry_of, filled}
+use Rattle.cdk_template.specs.Template.{among, entry_of}
 use Rattle.cdk_template.proofs.EntryLemmas.{filled_more}
 use Rattle.cdk_template.proofs.sections.resources_of.Goals as goal
 

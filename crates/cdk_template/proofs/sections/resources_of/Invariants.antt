@@ -1,11 +1,12 @@
 use Rattle.std.proofs.Common.{◌≡◌, ◌-◌, length}
 use Rattle.std.specs.List.{range_with_len}
 use Rattle.serde_json.specs.View.{members_view}
+use Rattle.cdk_meaning.specs.Sections.{filled}
 use Rattle.cdk_tree.specs.Expected.{is_resource}
 use Rattle.cdk_tree.specs.Placed.{construct_at}
 use Rattle.cdk_tree.specs.TreeView.{constructs}
 use Rattle.cdk_template.specs.Carried.{spelling_of}
-use Rattle.cdk_template.specs.Template.{among, entry_of, filled, section_of}
+use Rattle.cdk_template.specs.Template.{among, entry_of, section_of}
 use Rattle.cdk_template.proofs.sections.resources_of.Given as goal
 
 abbrev pub invariant-loop-number : goal.invariant-loop-number
