@@ -15,7 +15,7 @@ use Rattle.cdk_manifest.specs.TreeFile.{tree_file_of}
 
 -- texts and objects of them
 abbrev mutual
-  text_value : Expression → Data
+  pub text_value : Expression → Data
   text_value (expressions.text t) = string t
   text_value (expressions.object fs) = object (text_fields fs)
   text_value e = null

@@ -3,6 +3,7 @@
 
 mod assemblies;
 mod kinds;
+mod laws;
 mod maps;
 mod metadata;
 mod named;
@@ -11,6 +12,10 @@ mod nodes;
 mod stack_entries;
 #[cfg(test)]
 mod tests;
+mod tree_laws;
 
 pub use assemblies::manifest;
+pub use laws::{manifests_are_whole, manifests_tell_stacks};
 pub use node_tree::tree_file;
+pub use stack_entries::template_name;
+pub use tree_laws::tree_files_are_whole;

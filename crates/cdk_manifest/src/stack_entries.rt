@@ -1,6 +1,7 @@
 // The entries of artifacts: of stacks, nested assemblies and the tree file.
-ghost use Rattle.std.specs.Prelude.{◌≡◌, ◌<◌, length, IfOk};
+ghost use Rattle.std.specs.Prelude.{◌≡◌, ◌<◌, length, List, IfOk};
 ghost use Rattle.serde_json.specs.View.{members_view, view};
+ghost use Rattle.cdk_tree.specs.Placed.{Placed};
 ghost use Rattle.cdk_tree.specs.TreeView.{constructs};
 ghost use Rattle.cdk_stacks.specs.Made.{AreNamesOf};
 ghost use Rattle.cdk_manifest.specs.Manifest.{artifact_entry as spec_artifact_entry, nested_entry as spec_nested_entry, stack_entry as spec_stack_entry, stack_metadata, stack_properties as spec_stack_properties, telling_of, template_file as spec_template_file, tree_entry as spec_tree_entry};
@@ -19,6 +20,14 @@ fn template_file(alloc: Global, artifact: &str) -> Result<Text, AllocError>
 {
     let name = format!(in alloc; "{artifact}.template.json")?;
     Ok(Text::from_string(name))
+}
+
+/// The name of a stack's template in the directory of its assembly: its artifact id and `.template.json` (AWS CDK's cloud
+/// assembly). Fails where no memory is found.
+pub fn template_name(alloc: Global, names: &Names, stack: NodeId) -> Result<Text, AllocError>
+    ensures { IfOk result (λ name. (cs : List Placed) → AreNamesOf names.now cs → name ≡ spec_template_file ((telling_of cs).artifact stack)) }
+{
+    template_file(alloc, named::artifact(names, stack))
 }
 
 fn stack_properties(
