@@ -11,7 +11,7 @@ use Rattle.cdk_outside.specs.Outside.{Contents, Directories}
 use Rattle.cdk_write.specs.Steps.{WriteStep, make_directory, remove as removal, put, files_after, files_after_all, LeavesPartOf, StoppedAt}
 use Rattle.cdk_write.specs.Standing.{left_by, left_by_all, IsCutShort, StandsAt}
 
-abbrev Files : Type 0
+abbrev pub Files : Type 0
 Files = FinMap (slice_cmp nat_cmp) (List ℕ)
 
 pub get_inserted : (m : Files) (n b q : List ℕ) → get (insert m n b) q ≡ (if bytes_eq q n then Some b else get m q)
@@ -21,12 +21,12 @@ pub get_removed : (m : Files) (n q : List ℕ) → get (remove m n) q ≡ (if by
 get_removed m n q = get-remove nat_list_cmp_total m n q ∙ ap (λ t. cond t None (get m q)) (sym (texts_ties q n))
 
 -- the files after steps, from told files
-abbrev after : WriteStep → Files → Files
+abbrev pub after : WriteStep → Files → Files
 after (make_directory path) m = m
 after (removal path) m = remove m path
 after (put path bytes) m = insert m path bytes
 
-abbrev after_all : List WriteStep → Files → Files
+abbrev pub after_all : List WriteStep → Files → Files
 after_all [] m = m
 after_all (s ∷ ss) m = after_all ss (after s m)
 
@@ -35,16 +35,23 @@ after_is (make_directory path) m = refl
 after_is (removal path) m = refl
 after_is (put path bytes) m = refl
 
-all_is : (ss : List WriteStep) (m : Files) → files_after_all ss (Some m) ≡ Some (after_all ss m)
+pub all_is : (ss : List WriteStep) (m : Files) → files_after_all ss (Some m) ≡ Some (after_all ss m)
 all_is [] m = refl
 all_is (s ∷ ss) m = ap (files_after_all ss) (after_is s m) ∙ all_is ss (after s m)
+
+-- where files aren't told, they aren't afterwards
+pub none_after_all : (ss : List WriteStep) → files_after_all ss None ≡ None
+none_after_all [] = refl
+none_after_all (make_directory path ∷ ss) = none_after_all ss
+none_after_all (removal path ∷ ss) = none_after_all ss
+none_after_all (put path bytes ∷ ss) = none_after_all ss
 
 get_after : (s : WriteStep) (m : Files) (q : List ℕ) → get (after s m) q ≡ left_by s q (get m q)
 get_after (make_directory path) m q = refl
 get_after (removal path) m q = get_removed m path q
 get_after (put path bytes) m q = get_inserted m path bytes q
 
-get_after_all : (ss : List WriteStep) (m : Files) (q : List ℕ) → get (after_all ss m) q ≡ left_by_all ss q (get m q)
+pub get_after_all : (ss : List WriteStep) (m : Files) (q : List ℕ) → get (after_all ss m) q ≡ left_by_all ss q (get m q)
 get_after_all [] m q = refl
 get_after_all (s ∷ ss) m q = get_after_all ss (after s m) q ∙ ap (left_by_all ss q) (get_after s m q)
 

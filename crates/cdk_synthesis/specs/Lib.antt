@@ -1,0 +1,5 @@
+pub mod Passes
+pub mod Assembly
+pub mod Checks
+pub mod Headline
+pub mod Values
