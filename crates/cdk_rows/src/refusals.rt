@@ -3,10 +3,6 @@ use crate::world::{bucket_application, run_words, world_of};
 use cdk_tool::Status;
 use std::test::Fail;
 
-fn same_ids() -> &'static [u8] {
-    b"{\"app\":\"1\",\"children\":[{\"kind\":\"stack\",\"id\":\"S\",\"children\":[{\"kind\":\"resource\",\"id\":\"A\",\"type\":\"T\"},{\"kind\":\"resource\",\"id\":\"A\",\"type\":\"T\"}]}]}"
-}
-
 #[test]
 fn faults_of_documents(rt: HostRuntime) -> Result<(), Fail> {
     let alloc = rt.alloc();
@@ -15,7 +11,6 @@ fn faults_of_documents(rt: HostRuntime) -> Result<(), Fail> {
     let rows = [
         (b"".as_slice(), not_json),
         (b"{\"app\":\"1\"}".as_slice(), shape),
-        (same_ids(), shape),
     ];
     for (application, line) in rows {
         let mut world = world_of(alloc, application, 2000, &[], &[])?;

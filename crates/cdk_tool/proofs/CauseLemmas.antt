@@ -6,7 +6,11 @@ use Rattle.cdk_base.specs.declared.fault.Fault.TheVariants.{Memory, App, Refused
 use Rattle.cdk_outside.specs.Outside.{Contents, Directories, Holds, HoldsOver}
 use Rattle.cdk_write.specs.Lines.{write_line, Says}
 use Rattle.cdk_write.specs.Steps.{WriteStep, step_path, StoppedAt}
-use Rattle.cdk_tool.specs.Assembly.{Found, found, first_fault, assembly_of, steps_of, IsFaultOf}
+use Rattle.cdk_language.specs.declared.finding.Finding.{Finding}
+use Rattle.cdk_synthesis.specs.Assembly.{assembly_of}
+use Rattle.cdk_synthesis.specs.Checks.{IsFaultOf}
+use Rattle.cdk_synthesis.specs.Passes.{first_fault, here}
+use Rattle.cdk_tool.specs.Assembly.{steps_of}
 use Rattle.cdk_tool.specs.Causes.{HasFault, IsCause, IsCut, IsToldFault, IsToldRefusal, IsAppFault}
 use Rattle.cdk_tool.specs.declared.top.Refusal.{Refusal}
 use Rattle.cdk_tool.specs.declared.top.Refusal.TheVariants.{Unread, Faulty, NoRoom}
@@ -22,10 +26,10 @@ held_fault None name bytes fault held is = tt
 held_fault (Some m) name bytes fault held is = (bytes, held, is)
 
 -- a file over the limit is too long
-pub over_fault : (files : Contents) (name : List ℕ) (fault : Fault) → HoldsOver files name 16777216 → IsFaultOf (found TooLong) fault → HasFault files name fault
+pub over_fault : (files : Contents) (name : List ℕ) (fault : Fault) → HoldsOver files name 16777216 → IsFaultOf (Some (here TooLong)) fault → HasFault files name fault
 over_fault None name fault held is = tt
 over_fault (Some m) name fault held is =
-    (held.0, held.1, let P : Option Found → Type 0 = λ f. IsFaultOf f fault in subst P (sym (long_fault held.0 held.2)) is)
+    (held.0, held.1, let P : Option Finding → Type 0 = λ f. IsFaultOf f fault in subst P (sym (long_fault held.0 held.2)) is)
 
 told_fault : (fault : Fault) (files : Contents) (app : List ℕ) (old new : Option (List ℕ)) (before now : ℕ) → HasFault files app fault → IsToldFault fault AppFault old new before now → IsAppFault files app old new before now
 told_fault Memory files app old new before now has told = absurd told

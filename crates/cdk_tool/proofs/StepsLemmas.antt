@@ -5,7 +5,7 @@ use Rattle.std.proofs.lemmas.List.{take_more}
 use Rattle.cdk_write.specs.Steps.{make_directory, remove, put, path_in, step_view}
 use Rattle.cdk_write.specs.declared.step.Step.{Step}
 use Rattle.cdk_tool.specs.Assembly.{steps_of}
-use Rattle.cdk_tool.specs.declared.synthesis.File.{File}
+use Rattle.cdk_synthesis.specs.declared.files.File.{File}
 
 append_step : (directory : List ℕ) (fs : List File) (f : File) → steps_of directory (fs ++ f ∷ []) ≡ steps_of directory fs ++ put (path_in directory f.name) f.bytes ∷ []
 append_step directory fs f = ap (λ rest. make_directory directory ∷ remove (path_in directory (codes "manifest.json")) ∷ rest) (map-append (λ (g : File). put (path_in directory g.name) g.bytes) fs (f ∷ []))

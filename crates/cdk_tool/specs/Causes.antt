@@ -8,8 +8,11 @@ use Rattle.cdk_outside.specs.Outside.{Contents, Directories, Holds, Rose}
 use Rattle.cdk_write.specs.Lines.{read_line, write_line, error_line, memory_line, Says}
 use Rattle.cdk_write.specs.Standing.{StandsAt}
 use Rattle.cdk_write.specs.Steps.{path_in, step_path, files_after_all, directories_after_all, StoppedAt}
-use Rattle.cdk_tool.specs.Assembly.{first_fault, assembly_of, IsFaultOf, steps_of}
-use Rattle.cdk_tool.specs.declared.synthesis.File.{File}
+use Rattle.cdk_synthesis.specs.Assembly.{assembly_of}
+use Rattle.cdk_synthesis.specs.Checks.{IsFaultOf}
+use Rattle.cdk_synthesis.specs.Passes.{first_fault}
+use Rattle.cdk_synthesis.specs.declared.files.File.{File}
+use Rattle.cdk_tool.specs.Assembly.{steps_of}
 use Rattle.cdk_tool.specs.declared.top.Refusal.{Refusal}
 use Rattle.cdk_tool.specs.declared.top.Refusal.TheVariants.{Unread, Faulty, NoRoom}
 use Rattle.cdk_tool.specs.declared.status.Status.{Status}

@@ -4,11 +4,9 @@
 mod evaluation;
 mod inputs;
 mod status;
-mod synthesis;
 mod top;
 mod words;
 
 pub use status::Status;
-pub use synthesis::{File, synth};
 pub use top::run;
 pub use words::{Command, plain};

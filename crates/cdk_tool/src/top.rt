@@ -3,7 +3,9 @@ ghost use Rattle.std.specs.Prelude.{◌≡◌, ◌≤◌, ℕ, List, true, false
 ghost use Rattle.cdk_outside.specs.Outside.{Holds, Rose};
 ghost use Rattle.cdk_write.specs.Lines.{read_line, write_line, error_line, bad_words_line, memory_line, Says};
 ghost use Rattle.cdk_write.specs.Steps.{step_view, step_path, files_after_all, directories_after_all, StoppedAt, put, path_in as path_in_directory};
-ghost use Rattle.cdk_tool.specs.Assembly.{first_fault, assembly_of, steps_of as steps_of_writing, AllUtf8};
+ghost use Rattle.cdk_synthesis.specs.Assembly.{assembly_of, AllUtf8};
+ghost use Rattle.cdk_synthesis.specs.Passes.{first_fault};
+ghost use Rattle.cdk_tool.specs.Assembly.{steps_of as steps_of_writing};
 ghost use Rattle.cdk_tool.specs.Headline.{MeaningIsKept};
 ghost use Rattle.cdk_tool.specs.EvalCauses.{is_reported, IsReported, IsPartlyReported, IsBadInput, IsUnread};
 ghost use Rattle.cdk_tool.specs.Words.{command_of, OnSynth, OnEval};
@@ -11,10 +13,10 @@ ghost use Rattle.cdk_tool.specs.Status.{is_of_synth, is_of_writing, may_answer, 
 ghost use Rattle.cdk_tool.specs.Causes.{IsCause, IsDone, IsCut, IsReadFault, IsAppFault, IsToldFault, IsToldRefusal};
 
 use crate::evaluation::eval_command;
-use crate::synthesis::{MOST_BYTES, fault_at_root};
-use crate::{Command, File, Status, plain, synth};
+use crate::{Command, Status, plain};
 use cdk_base::{Code, Fault, List, Text};
 use cdk_outside::{Files, ReadError, Sink};
+use cdk_synthesis::{File, MOST_BYTES, fault_at_root, synth};
 use cdk_write::{
     Action, BAD_WORDS, OUT_OF_MEMORY, Step, error_text, path_in, read_text, tell, write_steps,
 };

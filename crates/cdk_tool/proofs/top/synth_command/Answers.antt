@@ -1,6 +1,7 @@
 use Rattle.std.proofs.Common.{◌≡◌, ap, ◌∙◌, map, subst}
 use Rattle.cdk_write.specs.Steps.{step_view, files_after_all}
-use Rattle.cdk_tool.specs.Assembly.{steps_of, assembly_of, AllUtf8}
+use Rattle.cdk_synthesis.specs.Assembly.{assembly_of, AllUtf8}
+use Rattle.cdk_tool.specs.Assembly.{steps_of}
 use Rattle.cdk_tool.proofs.CauseLemmas.{told_refusal, cut_is}
 use Rattle.cdk_tool.proofs.HeadlineLemmas.{meaning_is_kept}
 use Rattle.cdk_tool.proofs.top.synth_command.Goals as goal

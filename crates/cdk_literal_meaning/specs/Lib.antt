@@ -1,2 +1,0 @@
-pub mod TreeMeaning
-pub mod Unmarked

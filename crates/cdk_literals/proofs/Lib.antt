@@ -1,6 +1,0 @@
-mod DocumentLemmas
-pub mod DocumentLaws
-mod Examples
-mod FieldLemmas
-pub mod FormLaws
-pub mod WrittenLaws

@@ -1,5 +1,0 @@
-pub mod Documents
-pub mod Form
-pub mod LiteralStack
-pub mod Views
-pub mod Written
