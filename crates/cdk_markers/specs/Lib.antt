@@ -1,0 +1,4 @@
+pub mod Cut
+pub mod Key
+pub mod ListKey
+pub mod Pieces

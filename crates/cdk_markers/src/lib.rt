@@ -1,0 +1,3 @@
+//! The markers of tokens inside texts.
+#![tactic(auto)]
+
