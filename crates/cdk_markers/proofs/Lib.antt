@@ -1,1 +1,5 @@
+mod CutLaws
+pub mod CutSteps
 mod Examples
+pub mod FirstKey
+pub mod Overlap
