@@ -1,4 +1,4 @@
-mod CutLaws
+pub mod CutLaws
 pub mod CutSteps
 mod Examples
 pub mod FirstKey
