@@ -3,3 +3,4 @@ pub mod CutSteps
 mod Examples
 pub mod FirstKey
 pub mod Overlap
+pub mod Steps
