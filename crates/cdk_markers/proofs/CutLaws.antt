@@ -1,9 +1,9 @@
 -- Each text has one cut: the one that is computed.
-use Rattle.std.proofs.Common.{◌≡◌, ◌≢◌, ℕ, zero, suc, ◌+◌, List, [], ◌∷◌, ◌++◌, length, take, drop, Bool, true, false, IsTrue, codes, Option, Some, None, is_some, refl, sym, ap, ap₂, ◌∙◌, subst, append_assoc, arith}
+use Rattle.std.proofs.Common.{◌≡◌, ◌≢◌, ℕ, zero, suc, ◌+◌, List, [], ◌∷◌, ◌++◌, length, take, drop, false, codes, Option, Some, None, is_some, refl, sym, ap, ap₂, ◌∙◌, append_assoc}
 use Rattle.std.proofs.lemmas.Bool.{true≢false}
 use Rattle.std.proofs.Math.Seq.{take-append_seam, drop-append_seam}
-use Rattle.cdk_markers.specs.Key.{is_key, text_marker}
-use Rattle.cdk_markers.specs.Pieces.{Piece, literal, key, joined, HoldsNoMarker, IsPiece, ArePieces, begins_with_literal, LiteralsApart, IsCut, CutsAreUnique}
+use Rattle.cdk_markers.specs.Key.{text_marker}
+use Rattle.cdk_markers.specs.Pieces.{Piece, literal, key, joined, HoldsNoMarker, ArePieces, begins_with_literal, LiteralsApart, IsCut, CutsAreUnique}
 use Rattle.cdk_markers.specs.Cut.{first_key, marker_rest, literal_before, piece_before, cut_after, cut_of, literal_len, CutsExist}
 use Rattle.cdk_markers.proofs.FirstKey.{BeginsWith, first_key-marker, first_key-some}
 use Rattle.cdk_markers.proofs.CutSteps.{past_marker, cut-marker, cut-literal, literal_len-none, literal_len-some}

@@ -1,5 +1,5 @@
 -- The first piece of a cut, and the cut of the rest.
-use Rattle.std.proofs.Common.{◌≡◌, ℕ, zero, suc, ◌+◌, List, [], ◌∷◌, ◌++◌, length, take, drop, codes, IsTrue, Option, Some, None, is_some, refl, sym, ap, ap₂, ◌∙◌, length-append, arith}
+use Rattle.std.proofs.Common.{◌≡◌, ℕ, zero, suc, ◌+◌, List, [], ◌∷◌, ◌++◌, length, take, drop, codes, IsTrue, Option, Some, None, refl, sym, ap, ◌∙◌, length-append, arith}
 use Rattle.std.proofs.Math.Seq.{drop-append_seam}
 use Rattle.cdk_markers.specs.Key.{is_key, text_marker}
 use Rattle.cdk_markers.specs.Pieces.{Piece, literal, key}
@@ -53,4 +53,3 @@ cut_literal_from x (y ∷ ys) e =
 -- where no marker stands first, the text before the first marker is cut off as a literal
 pub cut-literal : (x : ℕ) (xs : List ℕ) → first_key (x ∷ xs) ≡ None → cut_of (x ∷ xs) ≡ first_literal (x ∷ xs)
 cut-literal x xs e = cut_with x xs None e ∙ cut_literal_from x xs e ∙ ap (λ n. literal (take n (x ∷ xs)) ∷ cut_of (drop n (x ∷ xs))) (sym (literal_len-none x xs e))
-

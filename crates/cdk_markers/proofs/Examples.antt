@@ -1,10 +1,10 @@
 -- Small texts, and their cuts.
-use Rattle.std.proofs.Common.{◌≡◌, ℕ, List, [], ◌∷◌, map, codes, true, false, Some, None, refl}
-use Rattle.serde_json.specs.Data.{Data, string, array, no_items, item}
+use Rattle.std.proofs.Common.{◌≡◌, [], ◌∷◌, map, codes, true, false, Some, None, refl}
+use Rattle.serde_json.specs.Data.{string, array, no_items, item}
 use Rattle.cdk_markers.specs.Cut.{cut_of}
 use Rattle.cdk_markers.specs.Key.{is_key, text_marker, list_marker}
 use Rattle.cdk_markers.specs.ListKey.{list_key_of}
-use Rattle.cdk_markers.specs.Pieces.{Piece, literal, key, joined}
+use Rattle.cdk_markers.specs.Pieces.{literal, key, joined}
 
 keys : map is_key (codes "Ref.0" ∷ codes ".5" ∷ codes "A:b_c-d.e.17" ∷ []) ≡ true ∷ true ∷ true ∷ []
 keys = refl

@@ -1,12 +1,12 @@
 -- Two whole markers never overlap: a marker's only `$` is its first character.
-use Rattle.std.proofs.Common.{◌≡◌, ℕ, ◌==◌, Bool, List, [], ◌∷◌, ◌++◌, drop, get_or, true, false, not, codes, eqb, IsTrue, Option, Some, None, ◌⊎◌, inl, inr, refl, sym, ap, ap₂, ◌∙◌, subst}
+use Rattle.std.proofs.Common.{◌≡◌, ℕ, ◌==◌, Bool, List, [], ◌∷◌, ◌++◌, drop, get_or, true, not, codes, IsTrue, Option, Some, None, ◌⊎◌, inl, inr, refl, sym, ap, ap₂, ◌∙◌, subst}
 use Rattle.std.specs.List.{list_all}
 use Rattle.std.proofs.lemmas.Bool.{and_parts, and_from, true≢false, cases_eq, ne_eqb}
 use Rattle.std.proofs.lemmas.List.Folds.{list_all-append}
 use Rattle.cdk_markers.specs.Key.{is_key_byte, is_key, text_marker}
 use Rattle.cdk_markers.specs.Cut.{first_key}
 use Rattle.cdk_markers.specs.Pieces.{HoldsNoMarker}
-use Rattle.cdk_markers.proofs.FirstKey.{BeginsWith, first_key-some}
+use Rattle.cdk_markers.proofs.FirstKey.{first_key-some}
 
 -- of two texts written in two parts, one first part goes past the other
 abbrev Meet : (a b c d : List ℕ) → Type 0
@@ -26,8 +26,9 @@ is_no_dollar x = not (x == 36)
 
 no_dollar : (x : ℕ) → is_key_byte x ≡ true → is_no_dollar x ≡ true
 no_dollar x h = elim (cases_eq x 36) [
-    inl e ↦ absurd (true≢false (sym h ∙ ap is_key_byte e))
-  | inr n ↦ ap not (ne_eqb x 36 n) ]
+  | inl e ↦ absurd (true≢false (sym h ∙ ap is_key_byte e))
+  | inr n ↦ ap not (ne_eqb x 36 n)
+]
 
 no_dollars : (s : List ℕ) → list_all is_key_byte s ≡ true → list_all is_no_dollar s ≡ true
 no_dollars [] h = refl

@@ -1,10 +1,10 @@
 -- What a step of the iterator takes off the text, and that the text may be cut there.
-use Rattle.std.proofs.Common.{◌≡◌, ◌≢◌, ℕ, zero, suc, ◌+◌, ◌-◌, ◌<◌, ◌≤◌, List, [], ◌∷◌, ◌++◌, length, take, drop, get_or, slice_range, ◌==◌, codes, Bool, true, false, IsTrue, IsUtf8, IsCharBoundary, Option, Some, None, is_some, unwrap_or, option_map, refl, sym, ap, ap₂, ◌∙◌, subst, append_assoc, lit<, arith}
+use Rattle.std.proofs.Common.{◌≡◌, ◌≢◌, ℕ, suc, ◌+◌, ◌-◌, ◌<◌, ◌≤◌, List, [], ◌∷◌, ◌++◌, length, take, drop, get_or, slice_range, ◌==◌, codes, Bool, true, false, IsUtf8, IsCharBoundary, Option, Some, None, is_some, unwrap_or, option_map, refl, sym, ap, ap₂, ◌∙◌, subst, append_assoc, arith}
 use Rattle.std.proofs.lemmas.Bool.{true≢false}
 use Rattle.std.proofs.lemmas.List.{get_or-append-add, length-append, drop_more, length-drop}
-use Rattle.std.proofs.lemmas.Str.{IsCharBoundary-after_ascii, IsCharBoundary-before_ascii, IsCharBoundary-end}
+use Rattle.std.proofs.lemmas.Str.{IsCharBoundary-after_ascii}
 use Rattle.std.proofs.Math.Seq.{take-append_seam, drop-append_seam, take-length}
-use Rattle.cdk_markers.specs.Key.{is_key, text_marker}
+use Rattle.cdk_markers.specs.Key.{text_marker}
 use Rattle.cdk_markers.specs.Pieces.{Piece, literal, key}
 use Rattle.cdk_markers.specs.Cut.{first_key, cut_of, literal_len}
 use Rattle.cdk_markers.proofs.FirstKey.{BeginsWith, first_key-some, marker_shape}

@@ -5,6 +5,7 @@ mod cutting;
 mod key;
 mod laws;
 mod lists;
+mod spelling;
 #[cfg(test)]
 mod tests;
 mod texts;
@@ -13,4 +14,5 @@ pub use cutting::{Piece, Pieces};
 pub use key::is_key;
 pub use laws::{cuts_are_unique, cuts_exist, list_keys_are_exact};
 pub use lists::list_key;
+pub use spelling::{list_marker, text_marker};
 pub use texts::pieces;

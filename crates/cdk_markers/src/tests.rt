@@ -1,27 +1,28 @@
-use crate::{Piece, is_key, list_key, pieces};
-use cdk_base::Value;
+ghost use Rattle.std.specs.Prelude.{IfOk, map};
+ghost use Rattle.cdk_markers.specs.Left.{piece_view};
+ghost use Rattle.cdk_markers.specs.Pieces.{IsCut};
+
+use crate::{Piece, is_key, list_key, list_marker, pieces, text_marker};
+use std::alloc::{AllocError, Global};
 use std::test::Fail;
+
+fn collected(alloc: Global, text: &str) -> Result<Vec<Piece<'_>>, AllocError>
+    ensures { IfOk result (λ cut. IsCut text.now (map piece_view cut.items)) }
+{
+    pieces(text).collect(alloc)
+}
 
 #[test]
 fn cuts_a_text(rt: HostRuntime) -> Result<(), Fail> {
-    let mut cut = pieces("a${Token[X.]}${Token[${Token[Ref.0]}é${Token[.12]}");
-    let Some(Piece::Literal(first)) = cut.next() else {
-        return Err("a literal".into());
-    };
-    assert_eq!(rt; first, "a${Token[X.]}${Token[");
-    let Some(Piece::Key(second)) = cut.next() else {
-        return Err("a key".into());
-    };
-    assert_eq!(rt; second, "Ref.0");
-    let Some(Piece::Literal(third)) = cut.next() else {
-        return Err("a literal".into());
-    };
-    assert_eq!(rt; third, "é");
-    let Some(Piece::Key(fourth)) = cut.next() else {
-        return Err("a key".into());
-    };
-    assert_eq!(rt; fourth, ".12");
-    assert!(rt; cut.next().is_none());
+    let cut = collected(
+        rt.alloc(),
+        "a${Token[X.]}${Token[${Token[Ref.0]}é${Token[.12]}",
+    )?;
+    assert_eq!(rt; cut.len(), 4);
+    assert!(rt; matches!(cut[0], Piece::Literal("a${Token[X.]}${Token[")));
+    assert!(rt; matches!(cut[1], Piece::Key("Ref.0")));
+    assert!(rt; matches!(cut[2], Piece::Literal("é")));
+    assert!(rt; matches!(cut[3], Piece::Key(".12")));
     Ok(())
 }
 
@@ -33,10 +34,20 @@ fn knows_keys(rt: HostRuntime) -> Result<(), Fail> {
 }
 
 #[test]
+fn writes_a_text_marker(rt: HostRuntime) -> Result<(), Fail> {
+    let marker = text_marker(rt.alloc(), "Ref.0")?;
+    assert_eq!(rt; marker.as_str(), "${Token[Ref.0]}");
+    Ok(())
+}
+
+#[test]
 fn reads_a_list_marker(rt: HostRuntime) -> Result<(), Fail> {
-    let one = Value::from_str(rt.alloc(), "[\"#{Token[Split.1]}\"]").ok().ok_or("a list")?;
-    assert_eq!(rt; list_key(&one).ok_or("a key")?, "Split.1");
-    let two = Value::from_str(rt.alloc(), "[\"#{Token[Split.1]}\",\"\"]").ok().ok_or("a list")?;
-    assert!(rt; list_key(&two).is_none());
+    let marker = list_marker(rt.alloc(), "Split.1")?;
+    assert_eq!(rt;
+        marker.to_string(rt.alloc())?.as_str(),
+        "[\"#{Token[Split.1]}\"]"
+    );
+    assert_eq!(rt; list_key(&marker).ok_or("a key")?, "Split.1");
+    assert!(rt; list_key(&marker[0]).is_none());
     Ok(())
 }

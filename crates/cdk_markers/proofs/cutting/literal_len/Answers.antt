@@ -1,4 +1,4 @@
-use Rattle.std.proofs.Common.{sym, ◌∙◌, refl, arith}
+use Rattle.std.proofs.Common.{arith}
 use Rattle.cdk_markers.proofs.Steps.{scan_stops, scan_goes}
 use Rattle.cdk_markers.proofs.cutting.literal_len.Goals as goal
 

@@ -1,4 +1,4 @@
-use Rattle.std.proofs.Common.{◌≡◌, sym, subst, List}
+use Rattle.std.proofs.Common.{sym, subst, List}
 use Rattle.cdk_markers.specs.Pieces.{Piece, IsCut}
 use Rattle.cdk_markers.proofs.CutLaws.{cuts_exist}
 use Rattle.cdk_markers.proofs.texts.pieces.Goals as goal

@@ -1,5 +1,3 @@
-use Rattle.std.proofs.Common.{◌≡◌, ◌+◌, ◌-◌, ◌<◌, List, ◌∷◌, length, take, drop, IsUtf8, sym, ap, ◌∙◌, subst, arith}
-use Rattle.cdk_markers.specs.Cut.{cut_of}
 use Rattle.cdk_markers.proofs.Steps.{key_boundary, key_step, no_key, full_text, literal_boundary, literal_step, fewer}
 use Rattle.cdk_markers.proofs.cutting.PiecesIterator.next.Goals as goal
 
