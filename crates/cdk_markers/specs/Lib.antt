@@ -1,0 +1,5 @@
+pub mod Cut
+pub mod Key
+pub mod Left
+pub mod ListKey
+pub mod Pieces
