@@ -9,8 +9,6 @@ mod name_set;
 mod order;
 mod queue;
 mod stacks;
-#[cfg(test)]
-mod tests;
 
 pub use directories::nested_directories;
 pub use order::{Order, StackFile, stacks_in_order};

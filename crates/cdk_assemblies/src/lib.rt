@@ -5,8 +5,6 @@ mod assembly;
 mod document;
 mod levels;
 mod stacks;
-#[cfg(test)]
-mod tests;
 
 pub use assembly::{MOST_LEVELS, read_assembly};
 pub use document::MOST_BYTES;

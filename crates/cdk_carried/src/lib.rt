@@ -5,7 +5,5 @@ mod carried;
 mod depths;
 mod parts;
 mod sizes;
-#[cfg(test)]
-mod tests;
 
 pub use carried::is_carried;

@@ -13,8 +13,6 @@ mod items;
 mod law;
 mod reader;
 mod settings;
-#[cfg(test)]
-mod tests;
 
 pub use constructs::application_of;
 pub use error::ReadError;

@@ -9,8 +9,6 @@ mod roles;
 mod runs;
 mod settings;
 mod shapes;
-#[cfg(test)]
-mod tests;
 mod texts;
 
 pub use first::first_finding;

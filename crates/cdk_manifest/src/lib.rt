@@ -10,8 +10,6 @@ mod named;
 mod node_tree;
 mod nodes;
 mod stack_entries;
-#[cfg(test)]
-mod tests;
 mod tree_laws;
 
 pub use assemblies::manifest;

@@ -6,8 +6,6 @@ mod key;
 mod laws;
 mod lists;
 mod spelling;
-#[cfg(test)]
-mod tests;
 mod texts;
 
 pub use cutting::{Piece, Pieces};

@@ -6,8 +6,6 @@ mod forms;
 mod hash;
 mod human;
 mod laws;
-#[cfg(test)]
-mod tests;
 mod unique;
 mod visible;
 

@@ -42,12 +42,10 @@ impl<R: std::rt::Files + Drop> DiskFiles<R> {
 
 const PIECE: usize = 4096;
 
-// Reads to the end, or to one byte past the limit. A read that gives nothing is the end.
-pub(crate) fn read_up_to<R: Read>(
-    alloc: Global,
-    file: &mut R,
-    limit: usize,
-) -> Result<Vec<u8>, ReadError>
+/// All the bytes of a reader, at most `limit`: it reads to the end, which is a read that gives nothing, or to one byte
+/// past the limit. `TooLong` comes where there are more, `Failed` at the first read that fails, `Memory` where there is
+/// no room for the bytes.
+pub fn read_up_to<R: Read>(alloc: Global, file: &mut R, limit: usize) -> Result<Vec<u8>, ReadError>
     ensures short { IfOk result (λ v. vec_len v ≤ limit) }
     ensures all { IfOk result (λ v. AreAll (R.remaining file.old) v.items) }
     ensures too_long { IsErrOf result TooLong → IsOver (R.remaining file.old) limit }

@@ -4,8 +4,6 @@
 mod faults;
 mod laws;
 mod lines;
-#[cfg(test)]
-mod tests;
 
 pub use faults::has_fault;
 pub use laws::{no_line_is_forged, outcomes_are_printable};

@@ -8,8 +8,6 @@ mod literal;
 mod members;
 mod room;
 mod sections;
-#[cfg(test)]
-mod tests;
 
 pub use counts::check_counts;
 pub use laws::{literals_are_whole, templates_are_whole};

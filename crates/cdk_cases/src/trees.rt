@@ -1,0 +1,38 @@
+// The first construct of small applications that stands wrongly, and the first wrong target.
+use crate::documents::{cut_row, fault_text};
+use crate::tally::Tally;
+use crate::trouble::Trouble;
+use cdk_base::Fault;
+use cdk_doc::read_app;
+use cdk_tree::{Tree, build};
+use std::alloc::{AllocError, Global};
+
+fn tree_of(alloc: Global, document: &str) -> Result<Tree, Fault> {
+    build(alloc, read_app(alloc, document.as_bytes())?)
+}
+
+// The first wrong target's number and path.
+fn target_text(alloc: Global, tree: &Tree) -> Result<String, AllocError> {
+    let Err(found) = tree.check_targets() else {
+        return String::from_str(alloc, "0 =");
+    };
+    let number = found.code.number();
+    let path = match tree.id(found.at.number()) {
+        Some(at) => tree.path_of(at),
+        None => "no construct",
+    };
+    format!(in alloc; "{number} ={path}")
+}
+
+/// Tries each row: the fault that the tree is to tell, a blank, and the document.
+pub fn try_rows(alloc: Global, rows: &str, tally: &mut Tally) -> Result<(), Trouble> {
+    for row in rows.lines() {
+        let (fault, document) = cut_row(row).ok_or(Trouble::Data)?;
+        let told = match tree_of(alloc, document) {
+            Ok(tree) => target_text(alloc, &tree)?,
+            Err(found) => fault_text(alloc, &found)?,
+        };
+        tally.note(told.as_str() == fault, row, told.as_str())?;
+    }
+    Ok(())
+}
