@@ -2,8 +2,10 @@
 //! tool over files and streams in memory. It prints each case that comes out otherwise, and how many there were.
 #![tactic(auto)]
 
+mod calls;
 mod content;
 mod documents;
+mod outside;
 mod runs;
 mod tally;
 mod trees;
@@ -34,6 +36,9 @@ fn outcomes<F: Files>(alloc: Global, source: &mut F) -> Result<String, Trouble> 
     let cases = Value::from_str(alloc, cases.as_str()).map_err(|_| Trouble::Data)?;
     runs::try_cases(alloc, source, &cases, &mut tally)?;
     tally.end("runs")?;
+    calls::try_calls(alloc, &mut tally)?;
+    outside::try_outside(alloc, &mut tally)?;
+    tally.end("calls")?;
     Ok(tally.into_text())
 }
 
