@@ -11,7 +11,7 @@ use Rattle.cdk_meaning.specs.Agreement.{Agrees, AgreementIsSeen, seen, seen_trut
 use Rattle.cdk_meaning.specs.Meaning.{or_undefined, means_text, with_item, with_member, means_array, means_object, text_in, joined_texts, items_in, joined_items, item_at, cut_at, chosen, leaf_at}
 use Rattle.cdk_eval.specs.Outcomes.{Outcome, Value, Gone, Fault, Truth, Holds, Untold, Listed, Lists, NotListed, Fielded, Has, NotFielded, first_item, first_member, array_outcome, object_outcome, value_or, text_or, on_some_text, on_text, picked, before_fault}
 use Rattle.cdk_eval.specs.Template.{join_texts, join_args, select_args, split_args}
-use Rattle.cdk_meaning.specs.Plain.{IsNonEmpty}
+use Rattle.cdk_plain.specs.Plain.{IsNonEmpty}
 
 -- one is enough for the other
 pub agrees_seen : (o : Outcome) (m : Meaning) → seen o ≡ m → Agrees o m

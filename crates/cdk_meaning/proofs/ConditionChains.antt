@@ -2,7 +2,7 @@
 use Rattle.std.proofs.Common.{arith, ◌≡◌, ◌≤◌, ◌+◌, ℕ, zero, suc, List, [], ◌∷◌, length, Bool, true, false, ◌&&◌, ◌||◌, Option, refl, sym, ap, ◌∙◌, subst, inl, inr, eq-eqb, eqb-true}
 use Rattle.std.specs.Prelude.{◌==◌, ◌⊎◌}
 use Rattle.std.specs.List.{list_any}
-use Rattle.cdk_meaning.specs.Plain.{Plain, Condition, equals, all_of, any_of, negation, named, Conditions, no_conditions, condition}
+use Rattle.cdk_plain.specs.Plain.{Plain, Condition, equals, all_of, any_of, negation, named, Conditions, no_conditions, condition}
 use Rattle.cdk_meaning.specs.Mentions.{names_in, all_names_in}
 use Rattle.cdk_meaning.specs.Truth.{negated, condition_meaning, meaning_folded, truth_within, reaches}
 use Rattle.cdk_meaning.specs.Names.{IsIn, Each}

@@ -8,7 +8,7 @@ use Rattle.cdk_eval.specs.declared.fault.EvalFault.TheVariants.{ConditionLoop}
 use Rattle.cdk_eval.specs.Outcomes.{Untold}
 use Rattle.cdk_eval.specs.Template.{Scope, outcome}
 use Rattle.cdk_eval.specs.Conditions.{truth_of, names_of, reaches as json_reaches, is_loop, found_truth, truth_within as json_truth_within}
-use Rattle.cdk_meaning.specs.Plain.{Condition, IsWellCondition}
+use Rattle.cdk_plain.specs.Plain.{Condition, IsWellCondition}
 use Rattle.cdk_meaning.specs.Mentions.{operand_mentions, names_in}
 use Rattle.cdk_meaning.specs.Source.{Source}
 use Rattle.cdk_meaning.specs.Truth.{truth_within, reaches}

@@ -3,7 +3,7 @@ use Rattle.std.proofs.Common.{◌≡◌, [], ◌∷◌, true, Some, None, refl}
 use Rattle.std.specs.Prelude.{◌==◌, codes, pos, if◌then◌else◌}
 use Rattle.std.specs.Fmt.{digits}
 use Rattle.serde_json.specs.Data.{unsigned, Data, number, string, array, object, no_items, item, no_members, member}
-use Rattle.cdk_meaning.specs.Plain.{no_value, text, whole, truth, list_of, object_of, pseudo, ref, get_att, concat, join, select, split, choice, find_in_map, no_plains, plain, no_fields, field, equals, all_of, any_of, negation, named, no_conditions, condition}
+use Rattle.cdk_plain.specs.Plain.{no_value, text, whole, truth, list_of, object_of, pseudo, ref, get_att, concat, join, select, split, choice, find_in_map, no_plains, plain, no_fields, field, equals, all_of, any_of, negation, named, no_conditions, condition}
 use Rattle.cdk_meaning.specs.Mentions.{to_target, to_attribute, to_condition, mentions}
 use Rattle.cdk_meaning.specs.Source.{Means, MeansNothing, Undefined, Source}
 use Rattle.cdk_meaning.specs.Meaning.{meaning}

@@ -10,7 +10,7 @@ use Rattle.cdk_eval.specs.Template.{outcome}
 use Rattle.cdk_eval.specs.Texts.{join_with, cut}
 use Rattle.cdk_eval.specs.Sections.{scope}
 use Rattle.cdk_eval.specs.Stack.{Stack, stack_outcome}
-use Rattle.cdk_meaning.specs.Plain.{Plain, text, ref, get_att, concat, join, import_value, no_plains, plain, no_fields, field, equals}
+use Rattle.cdk_plain.specs.Plain.{Plain, text, ref, get_att, concat, join, import_value, no_plains, plain, no_fields, field, equals}
 use Rattle.cdk_meaning.specs.Source.{Undefined}
 use Rattle.cdk_meaning.specs.Meaning.{meaning}
 use Rattle.cdk_meaning.specs.Agreement.{Agrees}

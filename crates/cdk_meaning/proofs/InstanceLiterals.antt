@@ -4,7 +4,7 @@ use Rattle.std.specs.Prelude.{true, codes, negsuc}
 use Rattle.serde_json.specs.Data.{unsigned, Data, boolean, number, string, array, object, no_items, item, no_members, member}
 use Rattle.cdk_eval.specs.Outcomes.{Value}
 use Rattle.cdk_eval.specs.Template.{Scope, outcome}
-use Rattle.cdk_meaning.specs.Plain.{Plain, text, whole, truth, list_of, object_of, no_plains, plain, no_fields, field}
+use Rattle.cdk_plain.specs.Plain.{Plain, text, whole, truth, list_of, object_of, no_plains, plain, no_fields, field}
 use Rattle.cdk_meaning.specs.Rendered.{Homes, rendered}
 use Rattle.cdk_meaning.proofs.Literals.{literals_stand_law, literals_are_rendered}
 use Rattle.cdk_meaning.specs.Source.{Means, Source}

@@ -9,7 +9,7 @@ use Rattle.cdk_eval.specs.Template.{outcome}
 use Rattle.serde_json.specs.Find.{get_member}
 use Rattle.cdk_eval.specs.Conditions.{named_truth}
 use Rattle.cdk_eval.specs.Sections.{section, operand_scope, scope}
-use Rattle.cdk_meaning.specs.Plain.{Plain, pseudo, region, text, list_of, object_of, no_fields, field, ref, get_att, concat, join, choice, find_in_map, no_plains, plain, equals, negation, named}
+use Rattle.cdk_plain.specs.Plain.{Plain, pseudo, region, text, list_of, object_of, no_fields, field, ref, get_att, concat, join, choice, find_in_map, no_plains, plain, equals, negation, named}
 use Rattle.cdk_meaning.specs.Meaning.{meaning}
 use Rattle.cdk_meaning.specs.Agreement.{Agrees, seen_truth}
 use Rattle.cdk_meaning.specs.Rendered.{Home, Local, Import, one, two, rendered, rendered_condition}

@@ -3,7 +3,7 @@ use Rattle.std.proofs.Common.{◌≡◌, ℕ, List, Bool, true, false, Option, S
 use Rattle.std.specs.Prelude.{codes, if◌then◌else◌, ◌||◌}
 use Rattle.serde_json.specs.Data.{Num, Data, number, string}
 use Rattle.cdk_base.specs.Json.{is_whole}
-use Rattle.cdk_meaning.specs.Plain.{num_of, IsWell, AreWell, FieldsAreWell, Plain, text, whole, truth, list_of, object_of, pseudo, ref, get_att, concat, join, select, split, choice, find_in_map, import_value, Plains, no_plains, plain, Fields, no_fields, field}
+use Rattle.cdk_plain.specs.Plain.{num_of, IsWell, AreWell, FieldsAreWell, Plain, text, whole, truth, list_of, object_of, pseudo, ref, get_att, concat, join, select, split, choice, find_in_map, import_value, Plains, no_plains, plain, Fields, no_fields, field}
 use Rattle.cdk_meaning.specs.Mentions.{mentions, all_mentions, field_mentions}
 use Rattle.cdk_eval.specs.declared.fault.EvalFault.TheVariants.{NoExport, BadIntrinsic}
 use Rattle.cdk_eval.specs.Outcomes.{Value, Fault, text_or, picked, object_outcome}

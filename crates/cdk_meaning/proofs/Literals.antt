@@ -5,7 +5,7 @@ use Rattle.serde_json.specs.Data.{Data, null, boolean, number, string, array, ob
 use Rattle.cdk_eval.specs.declared.fault.EvalFault.TheVariants.{BadIntrinsic}
 use Rattle.cdk_eval.specs.Outcomes.{Value, Fault, Lists, Has, array_outcome, object_outcome}
 use Rattle.cdk_eval.specs.Template.{Scope, has_intrinsic_key, outcome, item_outcomes, member_outcomes, single_form}
-use Rattle.cdk_meaning.specs.Plain.{Plain, text, whole, truth, list_of, object_of, Plains, no_plains, plain, Fields, no_fields, field}
+use Rattle.cdk_plain.specs.Plain.{Plain, text, whole, truth, list_of, object_of, Plains, no_plains, plain, Fields, no_fields, field}
 use Rattle.cdk_meaning.specs.Source.{Means, Source}
 use Rattle.cdk_meaning.specs.Meaning.{means_array, means_object, meaning, meanings, field_meanings}
 use Rattle.cdk_meaning.specs.Rendered.{Homes, rendered, rendered_items, rendered_fields}

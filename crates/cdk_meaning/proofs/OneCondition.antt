@@ -6,7 +6,7 @@ use Rattle.cdk_eval.specs.declared.fault.EvalFault.TheVariants.{BadIntrinsic}
 use Rattle.cdk_eval.specs.Outcomes.{Outcome, Value, Gone, Fault, Truth, Holds, Untold}
 use Rattle.cdk_eval.specs.Template.{Scope, outcome}
 use Rattle.cdk_eval.specs.Conditions.{equal_texts, equal_outcomes, both_hold, all_hold, is_few, few_form, negated as untrue, truth_of, item_truths, item_count, names_in as json_names, item_names}
-use Rattle.cdk_meaning.specs.Plain.{Condition, equals, all_of, any_of, negation, named, Conditions, no_conditions, condition, condition_count, are_few, IsWellCondition, AreWellConditions}
+use Rattle.cdk_plain.specs.Plain.{Condition, equals, all_of, any_of, negation, named, Conditions, no_conditions, condition, condition_count, are_few, IsWellCondition, AreWellConditions}
 use Rattle.cdk_meaning.specs.Mentions.{mentions, operand_mentions, all_operand_mentions, names_in, all_names_in}
 use Rattle.cdk_meaning.specs.Source.{Source}
 use Rattle.cdk_meaning.specs.Meaning.{text_in, meaning}

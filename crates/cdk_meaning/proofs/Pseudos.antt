@@ -4,7 +4,7 @@ use Rattle.std.specs.Prelude.{codes, bytes_eq, if◌then◌else◌, ◌++◌, op
 use Rattle.serde_json.specs.Data.{Data}
 use Rattle.cdk_eval.specs.Values.{Values, pseudo_default, pseudo_text, is_no_value}
 use Rattle.cdk_eval.specs.Sections.{operand_scope, scope}
-use Rattle.cdk_meaning.specs.Plain.{account_id, partition, region, stack_id, stack_name, url_suffix, no_value}
+use Rattle.cdk_plain.specs.Plain.{account_id, partition, region, stack_id, stack_name, url_suffix, no_value}
 use Rattle.cdk_meaning.specs.Kept.{PseudosKept}
 use Rattle.cdk_meaning.specs.Constructs.{Constructs, operand_source, source_of}
 use Rattle.cdk_meaning.specs.StackTemplate.{has_colon}

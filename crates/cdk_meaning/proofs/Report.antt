@@ -16,7 +16,7 @@ use Rattle.cdk_eval.specs.Conditions.{count}
 use Rattle.cdk_eval.specs.Sections.{section, presence, scope}
 use Rattle.cdk_eval.specs.Stack.{Stack, properties_of, resource_at, resource_outcomes, some_text, text_outcome, value_and_name, made_output, output_value, output_at, output_outcomes, stack_outcome}
 use Rattle.cdk_eval.specs.Assembly.{literal_names}
-use Rattle.cdk_meaning.specs.Plain.{Fields, no_fields, field, FieldsAreWell}
+use Rattle.cdk_plain.specs.Plain.{Fields, no_fields, field, FieldsAreWell}
 use Rattle.cdk_meaning.specs.Mentions.{mentions, field_mentions}
 use Rattle.cdk_meaning.specs.Source.{Meaning}
 use Rattle.cdk_meaning.specs.Meaning.{text_in, meaning}

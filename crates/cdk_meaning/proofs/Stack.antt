@@ -13,7 +13,7 @@ use Rattle.cdk_eval.specs.Values.{Values, physical_text, attribute_text, pseudo_
 use Rattle.cdk_eval.specs.Outcomes.{Outcome, Gone, Truth, Holds, Untold}
 use Rattle.cdk_eval.specs.Template.{Scope, text_else, ref_outcome, outcome}
 use Rattle.cdk_eval.specs.Sections.{section, is_list_type, parameter_value, parameter_outcome, literal_or_bad, leaf_value, leaf_outcome, operand_resource, parameter_else, operand_scope, condition_truth, presence_by, presence, made_text, resource_outcome, attribute_outcome, target_outcome, scope}
-use Rattle.cdk_meaning.specs.Plain.{IsWellCondition}
+use Rattle.cdk_plain.specs.Plain.{IsWellCondition}
 use Rattle.cdk_meaning.specs.Mentions.{Mention, to_target, to_attribute, to_condition, to_mapping, to_import, mentions, operand_mentions}
 use Rattle.cdk_meaning.specs.Source.{Means}
 use Rattle.cdk_meaning.specs.Meaning.{or_undefined, meaning}

@@ -11,7 +11,7 @@ use Rattle.cdk_eval.specs.Reach.{is_among}
 use Rattle.cdk_eval.specs.Sections.{section, scope}
 use Rattle.cdk_eval.specs.Stack.{Stack, stack_outcome, exports_after}
 use Rattle.cdk_eval.specs.Assembly.{entries, literal_names, outside_exports, stack_outcomes}
-use Rattle.cdk_meaning.specs.Plain.{Plain, IsWell}
+use Rattle.cdk_plain.specs.Plain.{Plain, IsWell}
 use Rattle.cdk_meaning.specs.Mentions.{Mention, to_target, to_attribute, to_condition, to_mapping, to_import, mentions}
 use Rattle.cdk_meaning.specs.Source.{Meaning, Means, Source}
 use Rattle.cdk_meaning.specs.Meaning.{text_in, items_in, joined_items, meaning}

@@ -3,7 +3,7 @@ use Rattle.std.specs.Prelude.{◌≡◌, ◌≤◌, ℕ, List, length, map, fals
 use Rattle.serde_json.specs.Data.{Members}
 use Rattle.cdk_eval.specs.Template.{Scope, outcome}
 use Rattle.cdk_eval.specs.Conditions.{named_truth}
-use Rattle.cdk_meaning.specs.Plain.{Plain, Condition, IsWellCondition}
+use Rattle.cdk_plain.specs.Plain.{Plain, Condition, IsWellCondition}
 use Rattle.cdk_meaning.specs.Mentions.{operand_mentions, names_in}
 use Rattle.cdk_meaning.specs.Source.{Source}
 use Rattle.cdk_meaning.specs.Meaning.{text_in, meaning}

@@ -6,7 +6,7 @@ use Rattle.serde_json.specs.Data.{Data, string, array}
 use Rattle.serde_json.specs.Find.{get}
 use Rattle.cdk_eval.specs.Values.{Values, physical_text, attribute_text}
 use Rattle.cdk_eval.specs.Texts.{list_items}
-use Rattle.cdk_meaning.specs.Plain.{Pseudo, account_id, partition, region, stack_id, stack_name, url_suffix, no_value, Condition, named}
+use Rattle.cdk_plain.specs.Plain.{Pseudo, account_id, partition, region, stack_id, stack_name, url_suffix, no_value, Condition, named}
 use Rattle.cdk_meaning.specs.Source.{Meaning, Means, Undefined, Source}
 use Rattle.cdk_meaning.specs.Meaning.{text_in, meaning}
 use Rattle.cdk_meaning.specs.Truth.{truth_within}

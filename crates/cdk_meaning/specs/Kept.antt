@@ -1,6 +1,6 @@
 -- Rendering keeps meaning: what a rendered expression comes to is what the expression means (own).
 use Rattle.std.specs.Prelude.{◌≡◌, ℕ, List, false}
-use Rattle.cdk_meaning.specs.Plain.{Pseudo, pseudo_name, Plain, IsWell}
+use Rattle.cdk_plain.specs.Plain.{Pseudo, pseudo_name, Plain, IsWell}
 use Rattle.cdk_meaning.specs.Mentions.{Mention, to_target, to_attribute, to_condition, to_mapping, to_import, mentions}
 use Rattle.cdk_meaning.specs.Source.{Meaning, Source}
 use Rattle.cdk_meaning.specs.Meaning.{or_undefined, means_text, cut_at, pseudo_meaning, meaning}

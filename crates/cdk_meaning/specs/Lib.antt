@@ -1,4 +1,3 @@
-pub mod Plain
 pub mod Mentions
 pub mod Rendered
 pub mod Source

@@ -4,7 +4,7 @@ use Rattle.serde_json.specs.Data.{Data, null, boolean, number, string, array, ob
 use Rattle.cdk_base.specs.Json.{is_whole, is_intrinsic_key}
 use Rattle.cdk_eval.specs.Outcomes.{Value}
 use Rattle.cdk_eval.specs.Template.{Scope, outcome}
-use Rattle.cdk_meaning.specs.Plain.{num_of, Plain, text, whole, truth, list_of, object_of, Plains, no_plains, plain, Fields, no_fields, field}
+use Rattle.cdk_plain.specs.Plain.{num_of, Plain, text, whole, truth, list_of, object_of, Plains, no_plains, plain, Fields, no_fields, field}
 use Rattle.cdk_meaning.specs.Source.{Means, Source}
 use Rattle.cdk_meaning.specs.Meaning.{meaning}
 use Rattle.cdk_meaning.specs.Rendered.{Homes, rendered}

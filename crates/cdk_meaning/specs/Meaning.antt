@@ -5,7 +5,7 @@ use Rattle.serde_json.specs.Data.{Data, boolean, number, string, array, object, 
 use Rattle.cdk_base.specs.Json.{text_of}
 use Rattle.serde_json.specs.Find.{get_item}
 use Rattle.cdk_eval.specs.Texts.{item_texts, join_with, cut}
-use Rattle.cdk_meaning.specs.Plain.{Pseudo, no_value, num_of, Plain, text, whole, truth, list_of, object_of, pseudo, ref, get_att, concat, join, select, split, choice, find_in_map, import_value, Plains, no_plains, plain, Fields, no_fields, field}
+use Rattle.cdk_plain.specs.Plain.{Pseudo, no_value, num_of, Plain, text, whole, truth, list_of, object_of, pseudo, ref, get_att, concat, join, select, split, choice, find_in_map, import_value, Plains, no_plains, plain, Fields, no_fields, field}
 use Rattle.cdk_meaning.specs.Source.{Meaning, Means, MeansNothing, Undefined, Source}
 
 abbrev pub or_undefined : Option Data → Meaning

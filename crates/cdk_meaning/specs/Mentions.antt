@@ -1,6 +1,6 @@
 -- What a plain expression mentions, in every branch (AWS CDK's references of a resolved value).
 use Rattle.std.specs.Prelude.{ℕ, List, [], ◌∷◌, ◌++◌}
-use Rattle.cdk_meaning.specs.Plain.{Plain, text, whole, truth, list_of, object_of, pseudo, ref, get_att, concat, join, select, split, choice, find_in_map, import_value, Plains, no_plains, plain, Fields, no_fields, field, Condition, equals, all_of, any_of, negation, named, Conditions, no_conditions, condition}
+use Rattle.cdk_plain.specs.Plain.{Plain, text, whole, truth, list_of, object_of, pseudo, ref, get_att, concat, join, select, split, choice, find_in_map, import_value, Plains, no_plains, plain, Fields, no_fields, field, Condition, equals, all_of, any_of, negation, named, Conditions, no_conditions, condition}
 
 pub data Mention : Type 0 where
   to_target : ℕ → Mention

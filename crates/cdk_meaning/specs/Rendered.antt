@@ -3,7 +3,7 @@
 use Rattle.std.specs.Prelude.{ℕ, List, [], ◌∷◌, ◌++◌, Option, Some, None, if◌then◌else◌, bytes_eq, codes}
 use Rattle.serde_json.specs.Data.{unsigned, Data, boolean, number, string, array, object, Items, no_items, item, Members, no_members, member}
 use Rattle.cdk_base.specs.Json.{text_of}
-use Rattle.cdk_meaning.specs.Plain.{pseudo_name, num_of, Plain, text, whole, truth, list_of, object_of, pseudo, ref, get_att, concat, join, select, split, choice, find_in_map, import_value, Plains, no_plains, plain, Fields, no_fields, field, Condition, equals, all_of, any_of, negation, named, Conditions, no_conditions, condition}
+use Rattle.cdk_plain.specs.Plain.{pseudo_name, num_of, Plain, text, whole, truth, list_of, object_of, pseudo, ref, get_att, concat, join, select, split, choice, find_in_map, import_value, Plains, no_plains, plain, Fields, no_fields, field, Condition, equals, all_of, any_of, negation, named, Conditions, no_conditions, condition}
 
 -- How a target is spelled for a stack: by its logical name there, or elsewhere as the import of an export, whose text is cut at each
 -- `||` where it stands for a list.

@@ -8,7 +8,7 @@ use Rattle.cdk_eval.specs.Outcomes.{Outcome, OutputOutcome, OutputText, OutputNo
 use Rattle.cdk_eval.specs.Sections.{section}
 use Rattle.cdk_eval.specs.Stack.{Stack, ResourceOutcome, stack_outcome}
 use Rattle.cdk_eval.specs.Assembly.{literal_names}
-use Rattle.cdk_meaning.specs.Plain.{Plain, IsWell, Fields, no_fields, field, FieldsAreWell}
+use Rattle.cdk_plain.specs.Plain.{Plain, IsWell, Fields, no_fields, field, FieldsAreWell}
 use Rattle.cdk_meaning.specs.Mentions.{mentions, field_mentions}
 use Rattle.cdk_meaning.specs.Source.{Meaning, Source}
 use Rattle.cdk_meaning.specs.Meaning.{text_in, meaning}

@@ -1,7 +1,7 @@
 -- What the meaning of a plain expression needs of the tree and of the values, at the stack of the expression's owner (own).
 use Rattle.std.specs.Prelude.{ℕ, List, Bool, Option}
 use Rattle.serde_json.specs.Data.{Data}
-use Rattle.cdk_meaning.specs.Plain.{Pseudo}
+use Rattle.cdk_plain.specs.Plain.{Pseudo}
 
 -- A value, gone, or undefined.
 pub data Meaning : Type 0 where

@@ -8,7 +8,7 @@ use Rattle.cdk_base.specs.Json.{text_of}
 use Rattle.cdk_eval.specs.Values.{Values}
 use Rattle.cdk_eval.specs.Template.{outcome}
 use Rattle.cdk_eval.specs.Sections.{section, scope}
-use Rattle.cdk_meaning.specs.Plain.{Plain, IsWell, IsWellCondition}
+use Rattle.cdk_plain.specs.Plain.{Plain, IsWell, IsWellCondition}
 use Rattle.cdk_meaning.specs.Mentions.{Mention, to_target, to_attribute, to_condition, to_mapping, to_import, mentions, operand_mentions, names_in}
 use Rattle.cdk_meaning.specs.Meaning.{means_text, cut_at, meaning}
 use Rattle.cdk_meaning.specs.Source.{Meaning, Source}

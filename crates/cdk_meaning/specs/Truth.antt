@@ -1,7 +1,7 @@
 -- The truth that a condition means, over constructs alone (CloudFormation's condition functions).
 use Rattle.std.specs.Prelude.{ℕ, zero, suc, List, Bool, true, false, not, ◌&&◌, ◌||◌, ◌==◌, Option, Some, None, bytes_eq}
 use Rattle.std.specs.List.{list_any}
-use Rattle.cdk_meaning.specs.Plain.{Plain, Condition, equals, all_of, any_of, negation, named, Conditions, no_conditions, condition}
+use Rattle.cdk_plain.specs.Plain.{Plain, Condition, equals, all_of, any_of, negation, named, Conditions, no_conditions, condition}
 use Rattle.cdk_meaning.specs.Mentions.{names_in}
 
 abbrev pub same_texts : Option (List ℕ) → Option (List ℕ) → Option Bool

@@ -12,8 +12,8 @@ use Rattle.cdk_carried.specs.Carried.{are_carried_expressions, are_carried_field
 use Rattle.cdk_language.specs.Expression as expression
 use Rattle.cdk_language.specs.Expression.{Expression, Expressions}
 use Rattle.cdk_meaning.specs.Literals.{ArePlainLiterals, FieldsArePlainLiterals, IsPlainLiteral}
-use Rattle.cdk_meaning.specs.Plain as plain
-use Rattle.cdk_meaning.specs.Plain.{Fields, Plain, Plains, field, no_fields}
+use Rattle.cdk_plain.specs.Plain as plain
+use Rattle.cdk_plain.specs.Plain.{Fields, Plain, Plains, field, no_fields}
 use Rattle.cdk_meaning.specs.Rendered.{rendered, rendered_fields, rendered_items}
 use Rattle.cdk_meaning.proofs.Canonical.{rendered_is_canonical}
 use Rattle.cdk_tree.proofs.Tests.{and_left, and_right}

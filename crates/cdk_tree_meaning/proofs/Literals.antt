@@ -3,7 +3,7 @@ use Rattle.std.proofs.Common.{◌≡◌, [], ◌++◌, refl, ap, ◌∙◌}
 use Rattle.serde_json.specs.Data.{array, object}
 use Rattle.cdk_meaning.specs.Literals.{IsPlainLiteral, ArePlainLiterals, FieldsArePlainLiterals}
 use Rattle.cdk_meaning.specs.Mentions.{mentions, all_mentions, field_mentions}
-use Rattle.cdk_meaning.specs.Plain.{Plain, text, whole, truth, list_of, object_of, Plains, no_plains, plain, Fields, no_fields, field, IsWell, AreWell, FieldsAreWell}
+use Rattle.cdk_plain.specs.Plain.{Plain, text, whole, truth, list_of, object_of, Plains, no_plains, plain, Fields, no_fields, field, IsWell, AreWell, FieldsAreWell}
 use Rattle.cdk_meaning.specs.Rendered.{Homes, rendered, rendered_items, rendered_fields}
 
 mutual

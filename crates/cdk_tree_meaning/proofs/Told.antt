@@ -16,7 +16,7 @@ use Rattle.cdk_meaning.specs.Constructs.{presence_of, source_of, truth}
 use Rattle.cdk_meaning.specs.Literals.{FieldsArePlainLiterals}
 use Rattle.cdk_meaning.specs.Mentions.{Mention, field_mentions}
 use Rattle.cdk_meaning.specs.Names.{IsIn, Each}
-use Rattle.cdk_meaning.specs.Plain.{Fields, no_fields}
+use Rattle.cdk_plain.specs.Plain.{Fields, no_fields}
 use Rattle.cdk_meaning.specs.Rendered.{Homes, rendered, rendered_fields}
 use Rattle.cdk_meaning.specs.ReportKept.{AreResourcesTold, IsResourceTold}
 use Rattle.cdk_meaning.specs.StackTemplate.{homes_of}

@@ -8,7 +8,7 @@ use Rattle.cdk_language.specs.Construct.{Body}
 use Rattle.cdk_meaning.specs.Constructs.{presence_of, source_of, truth}
 use Rattle.cdk_meaning.specs.Meaning.{meaning}
 use Rattle.cdk_meaning.specs.Names.{IsIn, Each}
-use Rattle.cdk_meaning.specs.Plain.{Plain, object_of, Fields, no_fields}
+use Rattle.cdk_plain.specs.Plain.{Plain, object_of, Fields, no_fields}
 use Rattle.cdk_meaning.specs.ReportKept.{OutputMeaning, MeansNotMade, IsResourceTold, IsOutputTold, output_meaning}
 use Rattle.cdk_meaning.specs.Source.{Source}
 use Rattle.cdk_template.specs.Literals.{plain_of}

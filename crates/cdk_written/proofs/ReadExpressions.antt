@@ -18,7 +18,7 @@ use Rattle.cdk_language.specs.Expression as expression
 use Rattle.cdk_language.specs.Expression.{Expression, Fields}
 use Rattle.cdk_language.specs.Sub.{pieces_of}
 use Rattle.cdk_language.specs.declared.expression.Pseudo.{Pseudo}
-use Rattle.cdk_meaning.specs.Plain.{num_of}
+use Rattle.cdk_plain.specs.Plain.{num_of}
 use Rattle.cdk_written.specs.Written.{IsWritten, AreWritten, FieldsAreWritten}
 use Rattle.cdk_written.proofs.Unmarked.{or_false}
 

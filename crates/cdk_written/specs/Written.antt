@@ -7,7 +7,7 @@ use Rattle.cdk_language.specs.Construct as construct
 use Rattle.cdk_language.specs.Construct.{Body, Construct, Constructs}
 use Rattle.cdk_language.specs.Expression as expression
 use Rattle.cdk_language.specs.Expression.{Expression, Expressions, Fields}
-use Rattle.cdk_meaning.specs.Plain.{num_of}
+use Rattle.cdk_plain.specs.Plain.{num_of}
 
 -- ---- expressions; of the forms that are no literals, arrays or objects nothing is told yet
 

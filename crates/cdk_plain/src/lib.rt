@@ -1,0 +1,2 @@
+//! Definitions alone: plain expressions, with no marker, context or lazy in them.
+#![tactic(auto)]
