@@ -1,0 +1,14 @@
+//! Tokens: the marked values of an application's expressions, and what each marker stands for.
+#![tactic(auto)]
+
+mod contexts;
+mod form;
+mod marked;
+mod marking;
+mod table;
+mod whole;
+
+pub use form::{Form, Token};
+pub use marked::Marked;
+pub use table::Table;
+pub use whole::mark;
