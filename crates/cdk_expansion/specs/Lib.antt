@@ -1,0 +1,10 @@
+pub mod Pieces
+pub mod Expanded
+pub mod Own
+pub mod Clean
+pub mod Right
+pub mod Knows
+pub mod Laws
+pub mod Mentions
+pub mod Bounds
+pub mod MarkerForms
