@@ -1,8 +1,10 @@
 // Copies of expressions, which texts with variables put in at each use.
 ghost use Rattle.std.specs.Prelude.{◌≡◌, ◌+◌, IfOk, OnOk, OnErr};
-ghost use Rattle.cdk_language.specs.Expression.{view, expressions_view, fields_view};
+ghost use Rattle.std.specs.Prelude.{option_map};
+ghost use Rattle.serde_json.specs.View.{view as json_view};
+ghost use Rattle.cdk_language.specs.Expression.{view, expressions_view, fields_view, context, get_att};
 
-use cdk_base::{List, Text};
+use cdk_base::{List, Text, Value};
 use cdk_language::{Expr, Field};
 use std::alloc::{AllocError, Global};
 
@@ -37,6 +39,25 @@ impl Copies {
     }
 }
 
+fn copy_attribute(alloc: Global, target: &Text, attribute: &Text) -> Result<Expr, AllocError>
+    ensures { IfOk result (λ copied. view copied ≡ get_att target.now attribute.now) }
+{
+    let target = Text::new(alloc, target.as_str())?;
+    let attribute = Text::new(alloc, attribute.as_str())?;
+    Ok(Expr::GetAtt(target, attribute))
+}
+
+fn copy_context(alloc: Global, key: &Text, default: &Option<Value>) -> Result<Expr, AllocError>
+    ensures { IfOk result (λ copied. view copied ≡ context key.now (option_map json_view default.now)) }
+{
+    let key = Text::new(alloc, key.as_str())?;
+    let default = match default {
+        Some(value) => Some(value.clone()?),
+        None => None,
+    };
+    Ok(Expr::Context(key, default))
+}
+
 /// A copy of the expression. Each expression in it counts; beyond the allowance it answers want of memory.
 #[cycle(copy)]
 pub fn copy_of(alloc: Global, copies: &mut Copies, e: &Expr) -> Result<Expr, AllocError>
@@ -51,44 +72,44 @@ pub fn copy_of(alloc: Global, copies: &mut Copies, e: &Expr) -> Result<Expr, All
         Expr::Object(fields) => Ok(Expr::Object(copy_fields(alloc, copies, fields)?)),
         Expr::Pseudo(p) => Ok(Expr::Pseudo(*p)),
         Expr::Ref(t) => Ok(Expr::Ref(Text::new(alloc, t.as_str())?)),
-        Expr::GetAtt(t, a) => {
-            let target = Text::new(alloc, t.as_str())?;
-            let attribute = Text::new(alloc, a.as_str())?;
-            Ok(Expr::GetAtt(target, attribute))
-        }
+        Expr::GetAtt(t, a) => copy_attribute(alloc, t, a),
         Expr::Concat(items) => Ok(Expr::Concat(copy_items(alloc, copies, items)?)),
         Expr::Join(d, l) => {
-            let delimiter = Text::new(alloc, d.as_str())?;
-            Ok(Expr::Join(delimiter, copy_boxed(alloc, copies, l)?))
+            let (delimiter, list) = copy_argument(alloc, copies, d, l)?;
+            Ok(Expr::Join(delimiter, list))
         }
         Expr::Select(n, l) => Ok(Expr::Select(*n, copy_boxed(alloc, copies, l)?)),
         Expr::Split(d, x) => {
-            let delimiter = Text::new(alloc, d.as_str())?;
-            Ok(Expr::Split(delimiter, copy_boxed(alloc, copies, x)?))
+            let (delimiter, text) = copy_argument(alloc, copies, d, x)?;
+            Ok(Expr::Split(delimiter, text))
         }
         Expr::If(c, x, y) => {
-            let condition = Text::new(alloc, c.as_str())?;
-            let holds = copy_boxed(alloc, copies, x)?;
+            let (condition, holds) = copy_argument(alloc, copies, c, x)?;
             let fails = copy_boxed(alloc, copies, y)?;
             Ok(Expr::If(condition, holds, fails))
         }
         Expr::FindInMap(m, x, y) => {
-            let mapping = Text::new(alloc, m.as_str())?;
-            let first = copy_boxed(alloc, copies, x)?;
+            let (mapping, first) = copy_argument(alloc, copies, m, x)?;
             let second = copy_boxed(alloc, copies, y)?;
             Ok(Expr::FindInMap(mapping, first, second))
         }
         Expr::ImportValue(t) => Ok(Expr::ImportValue(Text::new(alloc, t.as_str())?)),
-        Expr::Context(k, d) => {
-            let key = Text::new(alloc, k.as_str())?;
-            let default = match d {
-                Some(value) => Some(value.clone()?),
-                None => None,
-            };
-            Ok(Expr::Context(key, default))
-        }
+        Expr::Context(k, d) => copy_context(alloc, k, d),
         Expr::Lazy(t) => Ok(Expr::Lazy(Text::new(alloc, t.as_str())?)),
     }
+}
+
+#[cycle(copy)]
+fn copy_argument(
+    alloc: Global,
+    copies: &mut Copies,
+    text: &Text,
+    e: &Box<Expr>,
+) -> Result<(Text, Box<Expr>), AllocError>
+    ensures { IfOk result (λ copied. (copied.0 ≡ text.now) × (view copied.1.value ≡ view e.now.value)) }
+{
+    let copied = copy_boxed(alloc, copies, e)?;
+    Ok((Text::new(alloc, text.as_str())?, copied))
 }
 
 #[cycle(copy)]

@@ -1,5 +1,5 @@
 // Settings laid over the context of an application's root.
-ghost use Rattle.std.specs.Prelude.{◌≡◌, [], IfOk, MatchOption};
+ghost use Rattle.std.specs.Prelude.{◌≡◌, [], IfOk, OnOk, MatchOption};
 ghost use Rattle.serde_json.specs.View.{members_view};
 ghost use Rattle.cdk_language.specs.Application.{laid_over as laid_over_members, with_settings as with_settings_laid};
 ghost use Rattle.cdk_language.specs.Construct.{app_view};
@@ -8,7 +8,7 @@ ghost use Rattle.cdk_doc.specs.Answers.{SettingsAnswer, IsSettingsFault, fault_o
 
 use cdk_base::{Fault, Map, Setting, Value};
 use cdk_findings::first_setting_finding;
-use cdk_language::{App, Finding, Node};
+use cdk_language::{App, Finding};
 use std::alloc::{AllocError, Global};
 
 /// The fault that a finding is.
@@ -31,43 +31,23 @@ fn settings_fault(alloc: Global, settings: &[Setting]) -> Option<Fault>
 }
 
 /// Each setting in order replaces the key's value.
-fn laid_over(alloc: Global, context: Map, settings: &[Setting]) -> Result<Map, AllocError>
-    ensures { IfOk result (λ m. members_view m.entries ≡ laid_over_members (members_view context.entries) settings.now) }
+fn lay_over(alloc: Global, context: &mut Map, settings: &[Setting]) -> Result<(), AllocError>
+    ensures { OnOk result (members_view context.new.entries ≡ laid_over_members (members_view context.old.entries) settings.now) }
 {
-    let mut context = context;
     for setting in settings {
         let key = String::from_str(alloc, setting.key.as_str())?;
         let value = String::from_str(alloc, setting.value.as_str())?;
         drop(context.insert(key, Value::String(value))?);
     }
-    Ok(context)
+    Ok(())
 }
 
 fn app_with(alloc: Global, app: App, settings: &[Setting]) -> Result<App, AllocError>
     ensures { IfOk result (λ a. app_view a ≡ with_settings_laid (app_view app) settings.now) }
 {
-    let App { root } = app;
-    let Node {
-        id,
-        kind,
-        context,
-        aspects,
-        depends,
-        logical,
-        children,
-    } = root;
-    let context = laid_over(alloc, context, settings)?;
-    Ok(App {
-        root: Node {
-            id,
-            kind,
-            context,
-            aspects,
-            depends,
-            logical,
-            children,
-        },
-    })
+    let mut app = app;
+    lay_over(alloc, &mut app.root.context, settings)?;
+    Ok(app)
 }
 
 /// The application with the settings laid over its root's context, in their order: of two with one key the later
