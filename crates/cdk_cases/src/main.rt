@@ -8,6 +8,7 @@ mod documents;
 mod outside;
 mod runs;
 mod tally;
+mod tokens;
 mod trees;
 mod trouble;
 mod world;
@@ -29,6 +30,9 @@ fn outcomes<F: Files>(alloc: Global, source: &mut F) -> Result<String, Trouble> 
     let rows = text_of_file(alloc, source, "trees.txt")?;
     trees::try_rows(alloc, rows.as_str(), &mut tally)?;
     tally.end("trees")?;
+    let rows = text_of_file(alloc, source, "tokens.txt")?;
+    tokens::try_rows(alloc, rows.as_str(), &mut tally)?;
+    tally.end("tokens")?;
     let rows = text_of_file(alloc, source, "applications.txt")?;
     runs::try_rows(alloc, rows.as_str(), &mut tally)?;
     tally.end("applications")?;
