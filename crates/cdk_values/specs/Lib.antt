@@ -1,0 +1,2 @@
+pub mod BadValue
+pub mod Findings
