@@ -1,8 +1,8 @@
 -- Small lists of entries: what is spelled, and what a new entry changes.
-use Rattle.std.proofs.Common.{◌≡◌, ℕ, List, [], ◌∷◌, ◌++◌, codes, Option, Some, None, refl}
+use Rattle.std.proofs.Common.{◌≡◌, List, [], ◌∷◌, ◌++◌, codes, Some, None, refl, arith}
 use Rattle.cdk_homes.specs.Homes.{Entry, spelled}
 use Rattle.cdk_homes.specs.declared.target.Home.TheVariants.{Local, Import, ImportList}
-use Rattle.cdk_homes.proofs.EntryLemmas.{put_changes_one_pair}
+use Rattle.cdk_homes.proofs.EntryLemmas.{others_keep_theirs, put_is_spelled}
 
 -- in stack 1 the bucket 2 by its logical name; in stack 4 the bucket and its attribute by exports
 abbrev three : List Entry
@@ -34,9 +34,13 @@ other_attribute = refl
 not_yet : spelled three 4 3 None ≡ None
 not_yet = refl
 
--- the law at a new entry: its pair is spelled so, and another keeps its spelling
+-- the law at a new entry: its pair is spelled so, and another target of the consumer keeps its spelling
 put_list : spelled (three ++ names ∷ []) 4 3 None ≡ Some (codes "Data:Names", ImportList)
-put_list = put_changes_one_pair three names refl 4 3 None
+put_list = put_is_spelled three names refl
 
 kept_attribute : spelled (three ++ names ∷ []) 4 2 (Some (codes "Arn")) ≡ Some (codes "Data:BucketArn", Import)
-kept_attribute = put_changes_one_pair three names refl 4 2 (Some (codes "Arn"))
+kept_attribute = others_keep_theirs three names 4 2 (Some (codes "Arn")) (λ same. omega (arith, same.1))
+
+-- and the same target stays without one in another consumer
+none_elsewhere : spelled (three ++ names ∷ []) 1 3 None ≡ None
+none_elsewhere = others_keep_theirs three names 1 3 None (λ same. omega (arith, same.0))

@@ -24,6 +24,9 @@ is_pair consumer at attribute c a t = (consumer == c && at == a) && is_attribute
 abbrev pub is_of : ℕ → ℕ → Option (List ℕ) → Entry → Bool
 is_of c a t e = is_pair e.consumer e.at e.attribute c a t
 
+abbrev pub spelling_of : Entry → List ℕ × Home
+spelling_of e = (e.name, e.how)
+
 -- the name and the home of the first entry of the pair
 abbrev pub spelled : List Entry → ℕ → ℕ → Option (List ℕ) → Option (List ℕ × Home)
-spelled entries c a t = option_map (λ e. (e.name, e.how)) (find (is_of c a t) entries)
+spelled entries consumer at attribute = option_map spelling_of (find (is_of consumer at attribute) entries)

@@ -1,5 +1,5 @@
 -- The entries that are kept, and the spelling that is answered.
-use Rattle.std.specs.Prelude.{ℕ, List, map}
+use Rattle.std.specs.Prelude.{ℕ, List}
 use Rattle.cdk_homes.specs.Homes as homes
 use Rattle.cdk_homes.specs.declared.entry.Entry.{Entry}
 use Rattle.cdk_homes.specs.declared.target.Home.{Home}

@@ -1,5 +1,6 @@
 // One target in one consuming stack.
 ghost use Rattle.std.specs.Prelude.{◌≡◌};
+ghost use Rattle.cdk_homes.specs.Homes.{spelling_of};
 ghost use Rattle.cdk_homes.specs.Views.{entry_view, spelling_view};
 
 use crate::target::{Home, Spelling, Target};
@@ -18,7 +19,7 @@ pub struct Entry {
 impl Entry {
     /// How the target is spelled.
     pub fn spelling(&self) -> Spelling<'_>
-        ensures { spelling_view result ≡ ((entry_view self.now).name, (entry_view self.now).how) }
+        ensures { spelling_view result ≡ spelling_of (entry_view self.now) }
     {
         let name = self.name.as_str();
         match self.how {

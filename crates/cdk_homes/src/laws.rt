@@ -1,7 +1,9 @@
-// What the crates above may rely on: each function stands for the law in its contract, and does nothing.
-ghost use Rattle.cdk_homes.specs.Laws.{PutChangesOnePair};
+// What the crates above may rely on: the function stands for the laws in its contract, and does nothing.
+ghost use Rattle.cdk_homes.specs.Laws.{OthersKeepTheirs, PutIsSpelled};
 
-/// The law that after a pair is put it has its spelling, and every other pair keeps the spelling that it had, or none.
+/// The law that a pair of a target and a consumer has its spelling once it is put, and that every other pair keeps the
+/// spelling that it had, or none.
 pub fn put_changes_one_pair()
-    ensures { PutChangesOnePair }
+    ensures put { PutIsSpelled }
+    ensures others { OthersKeepTheirs }
 {}

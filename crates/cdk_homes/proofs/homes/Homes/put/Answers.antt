@@ -4,7 +4,6 @@ use Rattle.std.specs.Prelude.{if◌then◌else◌, IsOk, Result, Ok, Err}
 use Rattle.std.specs.Result.{is_ok}
 use Rattle.std.specs.Vec.{vec_len, vec_capacity}
 use Rattle.std.proofs.lemmas.List.{length-map, map_push}
-use Rattle.cdk_homes.specs.Homes as homes
 use Rattle.cdk_homes.specs.Kept.{entries_in}
 use Rattle.cdk_homes.specs.Views.{entry_view}
 use Rattle.cdk_homes.specs.declared.entry.Entry.{Entry}
@@ -23,7 +22,7 @@ invariant_of-self-2 c =
     let entry : Entry = record { consumer = c.args.consumer; target = c.args.target; name = c.args.name; how = c.args.how } in
     let room : vec_len c.reserve.new.self < vec_capacity c.reserve.new.self = omega (arith, c.in_ok-reserve.ensures.ok) in
     let grown : c.push.new.self.items ≡ items ++ entry ∷ [] =
-        pushed c.push.result c.push.new.self.items c.reserve.new.self.items items entry (c.push.ensures.succeeds room) c.push.ensures.items c.reserve.ensures.items in
+    pushed c.push.result c.push.new.self.items c.reserve.new.self.items items entry (c.push.ensures.succeeds room) c.push.ensures.items c.reserve.ensures.items in
     let count : c.len.result ≡ length items = search rules in
     let last : c.len.result ≡ length es = count ∙ sym (length-map items entry_view) in
     record { indexed = λ x a t. indexed-push es (map entry_view c.push.new.self.items) (entry_view entry) c.requires.new (ap (map entry_view) grown ∙ map_push entry_view items entry) x a t c.len.result _ _ (c.in_ok-put.ensures.ok x a t) (c.args.self.now.indexed x a t) last }

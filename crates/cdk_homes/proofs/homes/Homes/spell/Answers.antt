@@ -1,6 +1,7 @@
 use Rattle.std.proofs.Common.{Some, None, option_map, sym, ap, ◌∙◌}
+use Rattle.cdk_homes.specs.Homes.{spelling_of}
 use Rattle.cdk_homes.specs.Kept.{entries_in}
-use Rattle.cdk_homes.specs.Views.{entry_view, spelling_view}
+use Rattle.cdk_homes.specs.Views.{spelling_view}
 use Rattle.cdk_homes.proofs.EntryLemmas.{spelled_at}
 use Rattle.cdk_homes.proofs.homes.Homes.spell.Goals as goal
 
@@ -19,7 +20,7 @@ returns-in_err-entry c =
     let x = c.args.consumer in
     let target = c.args.target.now in
     ap (option_map spelling_view) c.from_residual-in_err-entry.ensures
-    ∙ ap (option_map (λ e. (e.name, e.how))) c.in_err-entry.ensures
+    ∙ ap (option_map spelling_of) c.in_err-entry.ensures
     ∙ spelled_at (entries_in c.args.self.now) x target.at target.attribute (Some c.in_ok-place.place)
     (sym c.in_ok-place.was ∙ c.get.ensures ∙ c.args.self.now.indexed x target.at target.attribute)
 
@@ -29,6 +30,6 @@ returns c =
     let x = c.args.consumer in
     let target = c.args.target.now in
     ap Some c.spelling.ensures
-    ∙ ap (option_map (λ e. (e.name, e.how))) c.in_ok-entry.ensures
+    ∙ ap (option_map spelling_of) c.in_ok-entry.ensures
     ∙ spelled_at (entries_in c.args.self.now) x target.at target.attribute (Some c.in_ok-place.place)
     (sym c.in_ok-place.was ∙ c.get.ensures ∙ c.args.self.now.indexed x target.at target.attribute)
