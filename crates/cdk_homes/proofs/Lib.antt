@@ -1,0 +1,5 @@
+pub mod ListLemmas
+pub mod EntryLemmas
+pub mod PairLemmas
+pub mod PlaceLemmas
+mod Examples

@@ -1,0 +1,5 @@
+pub mod Homes
+pub mod Kept
+pub mod Laws
+pub mod Places
+pub mod Views
