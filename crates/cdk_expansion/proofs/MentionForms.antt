@@ -6,7 +6,8 @@ use Rattle.serde_json.specs.Data.{Data}
 use Rattle.cdk_plain.specs.Plain as plain
 use Rattle.cdk_plain.specs.Plain.{Plain}
 use Rattle.cdk_expansion.specs.Expanded.{value_plain, form_plain, known_by, forms_after, known_in}
-use Rattle.cdk_expansion.specs.Mentions.{arguments, directly, keys_in, Mentions, through, token_at}
+use Rattle.cdk_tokens.specs.Values.{token_at}
+use Rattle.cdk_expansion.specs.Mentions.{arguments, directly, keys_in, Mentions, through}
 use Rattle.cdk_expansion.proofs.MentionKeys.{Agree, same_value}
 use Rattle.cdk_tokens.specs.Token as token
 use Rattle.cdk_tokens.specs.Token.{Token, Form, find_token}

@@ -1,12 +1,13 @@
 -- Which lazies a marked value mentions, and which reach themselves by mentions (own, after AWS CDK's lazies).
-use Rattle.std.specs.Prelude.{◌≡◌, ◌<◌, ℕ, List, [], ◌∷◌, ◌++◌, slice_get, Contains, Option, Some, None, option_and_then}
+use Rattle.std.specs.Prelude.{◌≡◌, ◌<◌, ℕ, List, [], ◌∷◌, ◌++◌, slice_get, Contains, Option, Some, None}
 use Rattle.std.specs.Option.{unwrap_or}
 use Rattle.serde_json.specs.Data.{Data, null, boolean, number, string, array, object, Items, no_items, item, Members, no_members, member}
 use Rattle.cdk_markers.specs.Cut.{cut_of}
 use Rattle.cdk_markers.specs.ListKey.{list_key_of}
 use Rattle.cdk_markers.specs.Pieces.{Piece, literal, key}
 use Rattle.cdk_tokens.specs.Token as token
-use Rattle.cdk_tokens.specs.Token.{Token, Form, find_token}
+use Rattle.cdk_tokens.specs.Token.{Token, Form}
+use Rattle.cdk_tokens.specs.Values.{token_at}
 use Rattle.cdk_tokens.specs.Whole.{MarkedBody, value_at}
 
 -- ---- the keys of a marked value's tokens
@@ -47,9 +48,6 @@ arguments (token.find_in_map m x y) = x ∷ y ∷ []
 arguments f = []
 
 -- ---- mentions
-
-abbrev pub token_at : List Token → List ℕ → Option Token
-token_at ts k = option_and_then (slice_get ts) (find_token ts k)
 
 -- A value mentions a lazy where a token in it, or in the arguments of such a token, is that lazy's.
 pub data Mentions (ts : List Token) : Data → ℕ → Type 0 where
