@@ -1,3 +1,4 @@
+pub mod EnterLemmas
 pub mod Examples
 pub mod Findings
 pub mod MarkingLemmas
@@ -6,6 +7,7 @@ pub mod Numbered
 pub mod PathLaw
 pub mod RefusedLemmas
 pub mod ScopeLemmas
+pub mod SettleLemmas
 pub mod SlotLemmas
 pub mod SoundLemmas
 pub mod Tests

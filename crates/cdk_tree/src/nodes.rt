@@ -48,8 +48,8 @@ impl Nodes {
             mut paths,
         } = self;
         let at = NodeId::new(slots.len());
-        paths.insert(path, at)?;
         slots.push(slot)?;
+        paths.insert(path, at)?;
         Ok(Nodes { slots, paths })
     }
 

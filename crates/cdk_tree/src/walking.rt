@@ -228,7 +228,13 @@ fn enter(
 {
     let Pending { node, parent } = next;
     let (part, children) = take_apart(node);
-    let path = checked_path(alloc, &nodes, parent, &part)?;
+    let path = match checked_path(alloc, &nodes, parent, &part) {
+        Ok(path) => path,
+        Err(fault) => {
+            drop(part);
+            return Err(fault);
+        }
+    };
     let slot = slot_in(part, NodeId::new(nodes.len()), parent, nodes.slot(parent));
     place(nodes, pending, path, slot, children)
 }
