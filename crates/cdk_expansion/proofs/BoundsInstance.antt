@@ -6,7 +6,8 @@ use Rattle.serde_json.specs.Data.{Data, string}
 use Rattle.cdk_plain.specs.Plain.{text}
 use Rattle.cdk_expansion.specs.Expanded.{opened, plain_of}
 use Rattle.cdk_tokens.specs.Values.{token_at}
-use Rattle.cdk_expansion.specs.Mentions.{arguments, directly, further, IsOrder, keys_in, lazy_value, LazyMentions, Mentions, once, Reaches, ReachesItself, StandsBefore, through}
+use Rattle.cdk_expansion.specs.Mentions.{arguments, directly, further, IsOrder, keys_in, lazy_value, LazyMentions, Mentions, once, Reaches, ReachesItself, through}
+use Rattle.cdk_graphs.specs.Graph.{StandsBefore}
 use Rattle.cdk_expansion.proofs.BoundLazies.{lazies_suffice}
 use Rattle.cdk_expansion.proofs.OrderPlaces.{orders_suffice, places_suffice}
 use Rattle.cdk_tokens.specs.Token as token

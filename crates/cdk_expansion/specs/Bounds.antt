@@ -4,7 +4,8 @@ use Rattle.serde_json.specs.Data.{Data}
 use Rattle.cdk_tokens.specs.Token.{Token}
 use Rattle.cdk_tokens.specs.Whole.{MarkedBody}
 use Rattle.cdk_expansion.specs.Expanded.{opened, plain_of}
-use Rattle.cdk_expansion.specs.Mentions.{IsOrder, Mentions, ReachesItself, StandsBefore}
+use Rattle.cdk_expansion.specs.Mentions.{IsOrder, Mentions, ReachesItself}
+use Rattle.cdk_graphs.specs.Graph.{StandsBefore}
 
 -- For a lazy its place in an order suffices, counted from 1.
 abbrev pub PlacesSuffice : Type 0

@@ -8,3 +8,4 @@ pub mod Laws
 pub mod Mentions
 pub mod Bounds
 pub mod MarkerForms
+pub mod Conditions

@@ -1,7 +1,8 @@
 -- Which lazies a marked value mentions, and which reach themselves by mentions (own, after AWS CDK's lazies).
-use Rattle.std.specs.Prelude.{◌≡◌, ◌<◌, ℕ, List, [], ◌∷◌, ◌++◌, slice_get, Contains, Option, Some, None}
+use Rattle.std.specs.Prelude.{◌≡◌, ℕ, List, [], ◌∷◌, ◌++◌, slice_get, Contains, Option, Some, None}
 use Rattle.std.specs.Option.{unwrap_or}
 use Rattle.serde_json.specs.Data.{Data, null, boolean, number, string, array, object, Items, no_items, item, Members, no_members, member}
+use Rattle.cdk_graphs.specs.Graph.{StandsBefore}
 use Rattle.cdk_markers.specs.Cut.{cut_of}
 use Rattle.cdk_markers.specs.ListKey.{list_key_of}
 use Rattle.cdk_markers.specs.Pieces.{Piece, literal, key}
@@ -70,12 +71,6 @@ abbrev pub ReachesItself : List Token → List MarkedBody → ℕ → Type 0
 ReachesItself ts ms n = Reaches ts ms n n
 
 -- ---- orders
-
--- the number stands in the list before the place p
-pub record StandsBefore (order : List ℕ) (p m : ℕ) : Type 0 where
-  pub place : ℕ
-  pub before : place < p
-  pub there : slice_get order place ≡ Some m
 
 -- each lazy stands after those that it mentions
 abbrev pub IsOrder : List Token → List MarkedBody → List ℕ → Type 0

@@ -1,0 +1,17 @@
+mod FoundExamples
+mod FoundMembers
+mod FoundWays
+mod Closing
+mod Entering
+mod Groups
+mod Joining
+mod Laid
+mod Marked
+mod Walking
+mod Ways
+mod Counts
+mod Examples
+mod Members
+mod OrderLaws
+mod Places
+mod Placing
