@@ -1,0 +1,10 @@
+//! The check of sizes and depths of an application's values, once all tokens and lazies are expanded.
+#![tactic(auto)]
+
+mod check;
+mod conditions;
+mod lazies;
+mod measure;
+mod values;
+
+pub use check::check_sizes;
