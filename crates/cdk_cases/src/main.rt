@@ -5,6 +5,7 @@
 mod calls;
 mod content;
 mod documents;
+mod lazies;
 mod outside;
 mod runs;
 mod tally;
@@ -33,6 +34,9 @@ fn outcomes<F: Files>(alloc: Global, source: &mut F) -> Result<String, Trouble> 
     let rows = text_of_file(alloc, source, "tokens.txt")?;
     tokens::try_rows(alloc, rows.as_str(), &mut tally)?;
     tally.end("tokens")?;
+    let rows = text_of_file(alloc, source, "lazies.txt")?;
+    lazies::try_rows(alloc, rows.as_str(), &mut tally)?;
+    tally.end("lazies")?;
     let rows = text_of_file(alloc, source, "applications.txt")?;
     runs::try_rows(alloc, rows.as_str(), &mut tally)?;
     tally.end("applications")?;
