@@ -19,7 +19,7 @@ use Rattle.cdk_meaning.specs.Mentions.{Mention, to_target, to_attribute, to_cond
 use Rattle.cdk_meaning.specs.Source.{Meaning, Means}
 use Rattle.cdk_meaning.specs.Meaning.{means_text, text_in, items_in, joined_texts, joined_items, cut_at}
 use Rattle.cdk_meaning.specs.Agreement.{seen, seen_truth}
-use Rattle.cdk_meaning.specs.Rendered.{Home, Local, Import, ImportList, list_delimiter, join_json, ref_json, attribute_json}
+use Rattle.cdk_plain.specs.Rendered.{Home, Local, Import, ImportList, list_delimiter, join_json, ref_json, attribute_json}
 use Rattle.cdk_meaning.specs.Names.{AreDistinct, IsIn, Each}
 use Rattle.cdk_meaning.specs.Constructs.{text_form, number_form, list_form, Element, parameter_of, resource_of, condition_of, mapping_of, other_element, Constructs, means_parameter, presence_of, means_made, truth, target_meaning, attribute_meaning, source_of}
 use Rattle.cdk_meaning.specs.StackTemplate.{Parts, IsParameterEntry, IsGuardIn, IsResourceEntry, homes_of, TargetStands, MentionStands}

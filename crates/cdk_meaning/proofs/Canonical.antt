@@ -5,7 +5,7 @@ use Rattle.serde_json.specs.Data.{Data, null, boolean, number, string, array, ob
 use Rattle.cdk_base.specs.Json.{text_of, is_whole}
 use Rattle.cdk_base.specs.Pretty.{IsWhole, AllAbove, IsCanonical, ItemsAreCanonical, MembersAreCanonical}
 use Rattle.cdk_plain.specs.Plain.{num_of, Plain, text, whole, truth, list_of, object_of, pseudo, ref, get_att, concat, join, select, split, choice, find_in_map, import_value, Plains, no_plains, plain, Fields, no_fields, field, IsWell, AreWell, FieldsAreWell, Condition, equals, all_of, any_of, negation, named, Conditions, no_conditions, condition, IsWellCondition, AreWellConditions}
-use Rattle.cdk_meaning.specs.Rendered.{Home, Local, Import, ImportList, Homes, join_json, ref_json, attribute_json, and_items, joined_in, spliced_onto, spliced, glued, merged_onto, merged, finished, joined, rendered_join, rendered, rendered_items, rendered_fields, rendered_condition, rendered_conditions}
+use Rattle.cdk_plain.specs.Rendered.{Home, Local, Import, ImportList, Homes, join_json, ref_json, attribute_json, and_items, joined_in, spliced_onto, spliced, glued, merged_onto, merged, finished, joined, rendered_join, rendered, rendered_items, rendered_fields, rendered_condition, rendered_conditions}
 use Rattle.cdk_meaning.specs.Canonical.{KeysAbove, IsOrdered, AreOrdered, FieldsAreOrdered, HasOrderedOperands, HaveOrderedOperands, RenderedIsCanonical, RenderedConditionIsCanonical}
 use Rattle.cdk_meaning.proofs.Joins.{is_joined}
 

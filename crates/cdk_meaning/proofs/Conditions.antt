@@ -13,7 +13,7 @@ use Rattle.cdk_meaning.specs.Mentions.{operand_mentions, names_in}
 use Rattle.cdk_meaning.specs.Source.{Source}
 use Rattle.cdk_meaning.specs.Truth.{truth_within, reaches}
 use Rattle.cdk_meaning.specs.Agreement.{seen_truth}
-use Rattle.cdk_meaning.specs.Rendered.{Homes, rendered_condition}
+use Rattle.cdk_plain.specs.Rendered.{Homes, rendered_condition}
 use Rattle.cdk_meaning.specs.Kept.{Keeps, PseudosKept}
 use Rattle.cdk_meaning.specs.Names.{AreDistinct, IsIn, Each}
 use Rattle.cdk_meaning.specs.Sections.{built}

@@ -8,7 +8,7 @@ use Rattle.cdk_meaning.specs.Mentions.{to_target, to_attribute, to_condition, me
 use Rattle.cdk_meaning.specs.Source.{Means, MeansNothing, Undefined, Source}
 use Rattle.cdk_meaning.specs.Meaning.{meaning}
 use Rattle.cdk_meaning.specs.Truth.{truth_within}
-use Rattle.cdk_meaning.specs.Rendered.{Local, Import, ImportList, Homes, one, two, join_json, import_json, rendered, rendered_condition}
+use Rattle.cdk_plain.specs.Rendered.{Local, Import, ImportList, Homes, one, two, join_json, import_json, rendered, rendered_condition}
 
 -- 0 is a resource of the stack, 1 one of another stack, 2 a list parameter of another stack; 3 is a condition
 abbrev homes : Homes

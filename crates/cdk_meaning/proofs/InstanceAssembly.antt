@@ -14,7 +14,7 @@ use Rattle.cdk_plain.specs.Plain.{Plain, text, ref, get_att, concat, join, impor
 use Rattle.cdk_meaning.specs.Source.{Undefined}
 use Rattle.cdk_meaning.specs.Meaning.{meaning}
 use Rattle.cdk_meaning.specs.Agreement.{Agrees}
-use Rattle.cdk_meaning.specs.Rendered.{Home, Local, Import, ImportList, list_delimiter, one, two, join_json, ref_json, attribute_json, import_json, rendered, rendered_condition}
+use Rattle.cdk_plain.specs.Rendered.{Home, Local, Import, ImportList, list_delimiter, one, two, join_json, ref_json, attribute_json, import_json, rendered, rendered_condition}
 use Rattle.cdk_meaning.specs.Constructs.{list_form, Element, parameter_of, resource_of, condition_of, other_element, Constructs, condition_at, source_of}
 use Rattle.cdk_meaning.specs.StackTemplate.{Parts, homes_of, IsTemplateOf}
 use Rattle.cdk_meaning.specs.ListsKept.{text_items}

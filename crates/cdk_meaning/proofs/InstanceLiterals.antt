@@ -5,7 +5,7 @@ use Rattle.serde_json.specs.Data.{unsigned, Data, boolean, number, string, array
 use Rattle.cdk_eval.specs.Outcomes.{Value}
 use Rattle.cdk_eval.specs.Template.{Scope, outcome}
 use Rattle.cdk_plain.specs.Plain.{Plain, text, whole, truth, list_of, object_of, no_plains, plain, no_fields, field}
-use Rattle.cdk_meaning.specs.Rendered.{Homes, rendered}
+use Rattle.cdk_plain.specs.Rendered.{Homes, rendered}
 use Rattle.cdk_meaning.proofs.Literals.{literals_stand_law, literals_are_rendered}
 use Rattle.cdk_meaning.specs.Source.{Means, Source}
 use Rattle.cdk_meaning.specs.Meaning.{meaning}

@@ -12,7 +12,7 @@ use Rattle.cdk_eval.specs.Sections.{section, operand_scope, scope}
 use Rattle.cdk_plain.specs.Plain.{Plain, pseudo, region, text, list_of, object_of, no_fields, field, ref, get_att, concat, join, choice, find_in_map, no_plains, plain, equals, negation, named}
 use Rattle.cdk_meaning.specs.Meaning.{meaning}
 use Rattle.cdk_meaning.specs.Agreement.{Agrees, seen_truth}
-use Rattle.cdk_meaning.specs.Rendered.{Home, Local, Import, one, two, rendered, rendered_condition}
+use Rattle.cdk_plain.specs.Rendered.{Home, Local, Import, one, two, rendered, rendered_condition}
 use Rattle.cdk_meaning.specs.Constructs.{text_form, list_form, Element, parameter_of, resource_of, condition_of, mapping_of, other_element, Constructs, source_at, condition_at, source_of}
 use Rattle.cdk_meaning.specs.StackTemplate.{Parts, homes_of, IsTemplateOf}
 use Rattle.cdk_meaning.specs.Sections.{built}

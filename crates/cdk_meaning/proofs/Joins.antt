@@ -11,7 +11,7 @@ use Rattle.cdk_meaning.specs.Source.{Meaning, Means, MeansNothing, Undefined}
 use Rattle.cdk_meaning.specs.Agreement.{seen}
 use Rattle.cdk_meaning.specs.Meaning.{means_text, with_item, means_array, piece, then_text, joined_texts, items_in, joined_items}
 use Rattle.cdk_eval.specs.Template.{Scope, outcome, item_outcomes, number_outcome}
-use Rattle.cdk_meaning.specs.Rendered.{join_json, and_items, joined_in, spliced_onto, spliced, glued, merged_onto, merged, finished, joined, rendered_join}
+use Rattle.cdk_plain.specs.Rendered.{join_json, and_items, joined_in, spliced_onto, spliced, glued, merged_onto, merged, finished, joined, rendered_join}
 use Rattle.cdk_meaning.proofs.Collapse.{listed, listed_first, seen_array, seen_join}
 
 then_assoc : (a b c : Option (List ℕ)) → then_text (then_text a b) c ≡ then_text a (then_text b c)

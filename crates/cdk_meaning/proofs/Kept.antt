@@ -11,7 +11,7 @@ use Rattle.cdk_meaning.specs.Source.{Meaning, Means, Source}
 use Rattle.cdk_meaning.specs.Meaning.{means_text, means_array, means_object, text_in, items_in, joined_items, item_at, cut_at, chosen, meaning, meanings, pieces_text, field_meanings}
 use Rattle.cdk_meaning.specs.Agreement.{seen, seen_truth}
 use Rattle.cdk_eval.specs.Template.{Scope, has_intrinsic_key, select_args, number_outcome, outcome, item_outcomes, member_outcomes, single_form}
-use Rattle.cdk_meaning.specs.Rendered.{Home, Local, Import, ImportList, Homes, list_delimiter, one, three, split_json, import_json, ref_json, attribute_json, rendered, rendered_items, rendered_fields}
+use Rattle.cdk_plain.specs.Rendered.{Home, Local, Import, ImportList, Homes, list_delimiter, one, three, split_json, import_json, ref_json, attribute_json, rendered, rendered_items, rendered_fields}
 use Rattle.cdk_meaning.specs.Kept.{TargetKept, AttributeKept, MentionKept, Keeps, PseudosKept, RenderingKeepsMeaning}
 use Rattle.cdk_meaning.proofs.Collapse.{agrees_seen, listed, fielded, listed_first, fielded_first, seen_array, seen_object, seen_text, seen_select, seen_split, seen_choice, seen_leaf}
 use Rattle.cdk_meaning.proofs.NameLists.{each_front, each_back}

@@ -4,7 +4,7 @@ use Rattle.std.specs.Prelude.{◌==◌, ◌&&◌, nat_eq, if◌then◌else◌}
 use Rattle.std.specs.List.{starts_with}
 use Rattle.serde_json.specs.Data.{string, item}
 use Rattle.cdk_eval.specs.Texts.{with_before, cut}
-use Rattle.cdk_meaning.specs.Rendered.{list_delimiter}
+use Rattle.cdk_plain.specs.Rendered.{list_delimiter}
 use Rattle.cdk_meaning.specs.Names.{Each}
 use Rattle.cdk_meaning.specs.ListsKept.{has_bar, text_items, CuttingUndoesJoining}
 use Rattle.cdk_meaning.proofs.NameLists.{neither}

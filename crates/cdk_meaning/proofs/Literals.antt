@@ -8,7 +8,7 @@ use Rattle.cdk_eval.specs.Template.{Scope, has_intrinsic_key, outcome, item_outc
 use Rattle.cdk_plain.specs.Plain.{Plain, text, whole, truth, list_of, object_of, Plains, no_plains, plain, Fields, no_fields, field}
 use Rattle.cdk_meaning.specs.Source.{Means, Source}
 use Rattle.cdk_meaning.specs.Meaning.{means_array, means_object, meaning, meanings, field_meanings}
-use Rattle.cdk_meaning.specs.Rendered.{Homes, rendered, rendered_items, rendered_fields}
+use Rattle.cdk_plain.specs.Rendered.{Homes, rendered, rendered_items, rendered_fields}
 use Rattle.cdk_meaning.specs.Literals.{IsLiteral, AreLiterals, MembersAreLiterals, LiteralsStand, IsPlainLiteral, ArePlainLiterals, FieldsArePlainLiterals, LiteralsAreRendered}
 
 has_none : (ms : Members) → MembersAreLiterals ms → has_intrinsic_key ms ≡ false

@@ -12,7 +12,7 @@ use Rattle.cdk_meaning.specs.Source.{Source}
 use Rattle.cdk_meaning.specs.Meaning.{text_in, meaning}
 use Rattle.cdk_meaning.specs.Truth.{same_texts, with_both, negated, condition_meaning, meaning_folded}
 use Rattle.cdk_meaning.specs.Agreement.{seen, seen_truth}
-use Rattle.cdk_meaning.specs.Rendered.{Homes, rendered, rendered_condition, rendered_conditions}
+use Rattle.cdk_plain.specs.Rendered.{Homes, rendered, rendered_condition, rendered_conditions}
 use Rattle.cdk_meaning.specs.Kept.{MentionKept, Keeps, PseudosKept}
 use Rattle.cdk_meaning.specs.Names.{Each}
 use Rattle.cdk_meaning.proofs.Kept.{kept}

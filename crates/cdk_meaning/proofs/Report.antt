@@ -21,7 +21,7 @@ use Rattle.cdk_meaning.specs.Mentions.{mentions, field_mentions}
 use Rattle.cdk_meaning.specs.Source.{Meaning}
 use Rattle.cdk_meaning.specs.Meaning.{text_in, meaning}
 use Rattle.cdk_meaning.specs.Agreement.{seen, seen_truth}
-use Rattle.cdk_meaning.specs.Rendered.{Home, rendered, rendered_fields}
+use Rattle.cdk_plain.specs.Rendered.{Home, rendered, rendered_fields}
 use Rattle.cdk_meaning.specs.Names.{AreDistinct, IsIn, Each}
 use Rattle.cdk_meaning.specs.Constructs.{Constructs, Element, presence_of, truth, source_of}
 use Rattle.cdk_meaning.specs.StackTemplate.{Parts, IsResourceEntry, homes_of, IsTemplateOf}

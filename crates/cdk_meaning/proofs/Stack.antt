@@ -18,7 +18,7 @@ use Rattle.cdk_meaning.specs.Mentions.{Mention, to_target, to_attribute, to_cond
 use Rattle.cdk_meaning.specs.Source.{Means}
 use Rattle.cdk_meaning.specs.Meaning.{or_undefined, meaning}
 use Rattle.cdk_meaning.specs.Agreement.{seen, seen_truth}
-use Rattle.cdk_meaning.specs.Rendered.{Home, Local, Import, ImportList, Homes, rendered}
+use Rattle.cdk_plain.specs.Rendered.{Home, Local, Import, ImportList, Homes, rendered}
 use Rattle.cdk_meaning.specs.Kept.{TargetKept, AttributeKept, MentionKept, PseudosKept}
 use Rattle.cdk_meaning.specs.AssemblyKept.{guard_in}
 use Rattle.cdk_meaning.specs.Names.{AreDistinct, IsIn, Each}

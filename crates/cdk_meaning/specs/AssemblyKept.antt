@@ -16,7 +16,7 @@ use Rattle.cdk_meaning.specs.Mentions.{Mention, to_target, to_attribute, to_cond
 use Rattle.cdk_meaning.specs.Source.{Meaning, Means, Source}
 use Rattle.cdk_meaning.specs.Meaning.{text_in, items_in, joined_items, meaning}
 use Rattle.cdk_meaning.specs.Agreement.{Agrees}
-use Rattle.cdk_meaning.specs.Rendered.{Home, Local, Import, ImportList, list_delimiter, join_json, import_json, ref_json, attribute_json, rendered}
+use Rattle.cdk_plain.specs.Rendered.{Home, Local, Import, ImportList, list_delimiter, join_json, import_json, ref_json, attribute_json, rendered}
 use Rattle.cdk_meaning.specs.Names.{AreDistinct, IsIn, Each}
 use Rattle.cdk_meaning.specs.Constructs.{text_form, number_form, list_form, Element, parameter_of, resource_of, Constructs, source_of}
 use Rattle.cdk_meaning.specs.StackTemplate.{Parts, homes_of, IsTemplateOf}

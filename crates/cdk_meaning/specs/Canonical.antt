@@ -6,7 +6,7 @@ use Rattle.std.specs.Cmp.Lexicographic.{slice_cmp}
 use Rattle.std.specs.declared.cmp.Ordering.TheVariants.{Greater}
 use Rattle.cdk_base.specs.Pretty.{IsCanonical}
 use Rattle.cdk_plain.specs.Plain.{Plain, text, whole, truth, list_of, object_of, pseudo, ref, get_att, concat, join, select, split, choice, find_in_map, import_value, Plains, no_plains, plain, Fields, no_fields, field, IsWell, Condition, equals, all_of, any_of, negation, named, Conditions, no_conditions, condition, IsWellCondition}
-use Rattle.cdk_meaning.specs.Rendered.{Homes, rendered, rendered_condition}
+use Rattle.cdk_plain.specs.Rendered.{Homes, rendered, rendered_condition}
 
 -- each key is above k
 abbrev pub KeysAbove : List ℕ → Fields → Type 0

@@ -9,7 +9,7 @@ use Rattle.cdk_meaning.specs.Source.{Source}
 use Rattle.cdk_meaning.specs.Meaning.{text_in, meaning}
 use Rattle.cdk_meaning.specs.Truth.{condition_meaning, truth_within, reaches}
 use Rattle.cdk_meaning.specs.Agreement.{seen_truth}
-use Rattle.cdk_meaning.specs.Rendered.{Homes, rendered_condition}
+use Rattle.cdk_plain.specs.Rendered.{Homes, rendered_condition}
 use Rattle.cdk_meaning.specs.Kept.{Keeps, PseudosKept}
 use Rattle.cdk_meaning.specs.Names.{AreDistinct, IsIn, Each}
 use Rattle.cdk_meaning.specs.Sections.{IsSection}

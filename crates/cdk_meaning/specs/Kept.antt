@@ -7,7 +7,7 @@ use Rattle.cdk_meaning.specs.Meaning.{or_undefined, means_text, cut_at, pseudo_m
 use Rattle.cdk_meaning.specs.Agreement.{Agrees, seen, seen_truth}
 use Rattle.cdk_eval.specs.Template.{Scope, ref_outcome, outcome}
 use Rattle.cdk_meaning.specs.Names.{Each}
-use Rattle.cdk_meaning.specs.Rendered.{Home, Local, Import, ImportList, Homes, list_delimiter, rendered}
+use Rattle.cdk_plain.specs.Rendered.{Home, Local, Import, ImportList, Homes, list_delimiter, rendered}
 
 -- A target's spelling comes to what the target means: by its name, or by an export's text, whole or cut.
 abbrev pub TargetKept : Scope → Home → Meaning → Type 0

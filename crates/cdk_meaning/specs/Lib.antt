@@ -1,5 +1,4 @@
 pub mod Mentions
-pub mod Rendered
 pub mod Source
 pub mod Meaning
 pub mod Agreement

@@ -4,7 +4,7 @@ use Rattle.std.specs.Prelude.{◌≡◌, ℕ, ◌==◌, List, [], ◌∷◌, Boo
 use Rattle.std.specs.List.{list_any}
 use Rattle.serde_json.specs.Data.{string, Items, no_items, item}
 use Rattle.cdk_eval.specs.Texts.{join_with, cut}
-use Rattle.cdk_meaning.specs.Rendered.{list_delimiter}
+use Rattle.cdk_plain.specs.Rendered.{list_delimiter}
 use Rattle.cdk_meaning.specs.Names.{Each}
 
 -- the text holds a `|`

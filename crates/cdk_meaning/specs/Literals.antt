@@ -7,7 +7,7 @@ use Rattle.cdk_eval.specs.Template.{Scope, outcome}
 use Rattle.cdk_plain.specs.Plain.{num_of, Plain, text, whole, truth, list_of, object_of, Plains, no_plains, plain, Fields, no_fields, field}
 use Rattle.cdk_meaning.specs.Source.{Means, Source}
 use Rattle.cdk_meaning.specs.Meaning.{meaning}
-use Rattle.cdk_meaning.specs.Rendered.{Homes, rendered}
+use Rattle.cdk_plain.specs.Rendered.{Homes, rendered}
 
 -- No null, only whole numbers of 64 bits, and no key that makes an intrinsic.
 abbrev mutual

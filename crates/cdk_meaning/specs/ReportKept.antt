@@ -13,7 +13,7 @@ use Rattle.cdk_meaning.specs.Mentions.{mentions, field_mentions}
 use Rattle.cdk_meaning.specs.Source.{Meaning, Source}
 use Rattle.cdk_meaning.specs.Meaning.{text_in, meaning}
 use Rattle.cdk_meaning.specs.Agreement.{Agrees, seen_truth}
-use Rattle.cdk_meaning.specs.Rendered.{Home, rendered, rendered_fields}
+use Rattle.cdk_plain.specs.Rendered.{Home, rendered, rendered_fields}
 use Rattle.cdk_meaning.specs.Names.{AreDistinct, IsIn, Each}
 use Rattle.cdk_meaning.specs.Constructs.{Constructs, presence_of, truth, source_of}
 use Rattle.cdk_meaning.specs.StackTemplate.{Parts, IsGuardIn, homes_of, IsTemplateOf}

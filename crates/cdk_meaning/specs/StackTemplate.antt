@@ -14,7 +14,7 @@ use Rattle.cdk_meaning.specs.Meaning.{means_text, cut_at, meaning}
 use Rattle.cdk_meaning.specs.Source.{Meaning, Source}
 use Rattle.cdk_meaning.specs.Truth.{reaches}
 use Rattle.cdk_meaning.specs.Agreement.{Agrees}
-use Rattle.cdk_meaning.specs.Rendered.{Home, Local, Import, ImportList, Homes, list_delimiter, rendered, rendered_condition}
+use Rattle.cdk_plain.specs.Rendered.{Home, Local, Import, ImportList, Homes, list_delimiter, rendered, rendered_condition}
 use Rattle.cdk_meaning.specs.Names.{AreDistinct, IsIn, Each}
 use Rattle.cdk_meaning.specs.Sections.{IsSection}
 use Rattle.cdk_meaning.specs.Constructs.{ParameterForm, text_form, number_form, list_form, Element, parameter_of, resource_of, mapping_of, Constructs, condition_at, source_of}

@@ -9,7 +9,7 @@ use Rattle.cdk_language.specs.Expression.{expressions_view, field_view, view}
 use Rattle.cdk_language.specs.declared.expression.Expr.{Expr}
 use Rattle.cdk_language.specs.declared.expression.Field.{Field, the_lemmas}
 use Rattle.cdk_plain.specs.Plain.{Plain, Fields, no_fields, field}
-use Rattle.cdk_meaning.specs.Rendered.{rendered, rendered_fields, rendered_items}
+use Rattle.cdk_plain.specs.Rendered.{rendered, rendered_fields, rendered_items}
 use Rattle.cdk_template.specs.Literals.{literal_of, no_homes, plain_of, plains_of, put_field, with_fields}
 
 -- literals put in as members, one after another

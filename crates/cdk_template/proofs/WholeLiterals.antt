@@ -14,7 +14,7 @@ use Rattle.cdk_language.specs.Expression.{Expression, Expressions}
 use Rattle.cdk_meaning.specs.Literals.{ArePlainLiterals, FieldsArePlainLiterals, IsPlainLiteral}
 use Rattle.cdk_plain.specs.Plain as plain
 use Rattle.cdk_plain.specs.Plain.{Fields, Plain, Plains, field, no_fields}
-use Rattle.cdk_meaning.specs.Rendered.{rendered, rendered_fields, rendered_items}
+use Rattle.cdk_plain.specs.Rendered.{rendered, rendered_fields, rendered_items}
 use Rattle.cdk_meaning.proofs.Canonical.{rendered_is_canonical}
 use Rattle.cdk_tree.proofs.Tests.{and_left, and_right}
 use Rattle.cdk_template.specs.Laws.{IsWhole, LiteralsAreWhole}

@@ -7,7 +7,7 @@ use Rattle.serde_json.specs.Data.{Data}
 use Rattle.cdk_language.specs.Expression as expression
 use Rattle.cdk_language.specs.Expression.{Expression, Expressions}
 use Rattle.cdk_plain.specs.Plain.{Plain, text, whole, truth, list_of, object_of, Plains, no_plains, plain, Fields, no_fields, field}
-use Rattle.cdk_meaning.specs.Rendered.{Homes, Local, rendered}
+use Rattle.cdk_plain.specs.Rendered.{Homes, Local, rendered}
 
 -- ---- what they mean
 

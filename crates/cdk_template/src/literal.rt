@@ -5,7 +5,7 @@ ghost use Rattle.serde_json.specs.View.{view as json_view, items_view, members_v
 ghost use Rattle.cdk_carried.specs.Carried.{is_carried_expression};
 ghost use Rattle.cdk_language.specs.Expression.{view, expressions_view, fields_view};
 ghost use Rattle.cdk_plain.specs.Plain.{num_of, no_fields};
-ghost use Rattle.cdk_meaning.specs.Rendered.{rendered_items, rendered_fields};
+ghost use Rattle.cdk_plain.specs.Rendered.{rendered_items, rendered_fields};
 ghost use Rattle.cdk_template.specs.Literals.{literal_of, no_homes, plains_of, with_fields};
 
 use cdk_base::{List, Map, Value};

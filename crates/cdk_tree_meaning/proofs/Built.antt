@@ -10,7 +10,7 @@ use Rattle.cdk_language.specs.Construct as language
 use Rattle.cdk_language.specs.Construct.{Body, ResourceBody}
 use Rattle.cdk_meaning.specs.Constructs.{resource_of}
 use Rattle.cdk_meaning.specs.Names.{IsIn, Each}
-use Rattle.cdk_meaning.specs.Rendered.{Home, Local}
+use Rattle.cdk_plain.specs.Rendered.{Home, Local}
 use Rattle.cdk_meaning.specs.Sections.{IsSection}
 use Rattle.cdk_meaning.specs.StackTemplate.{Parts, IsResourceEntry, IsTemplateOf, has_colon, homes_of}
 use Rattle.cdk_names.specs.Forms.{is_logical}

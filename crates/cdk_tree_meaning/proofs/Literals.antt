@@ -4,7 +4,7 @@ use Rattle.serde_json.specs.Data.{array, object}
 use Rattle.cdk_meaning.specs.Literals.{IsPlainLiteral, ArePlainLiterals, FieldsArePlainLiterals}
 use Rattle.cdk_meaning.specs.Mentions.{mentions, all_mentions, field_mentions}
 use Rattle.cdk_plain.specs.Plain.{Plain, text, whole, truth, list_of, object_of, Plains, no_plains, plain, Fields, no_fields, field, IsWell, AreWell, FieldsAreWell}
-use Rattle.cdk_meaning.specs.Rendered.{Homes, rendered, rendered_items, rendered_fields}
+use Rattle.cdk_plain.specs.Rendered.{Homes, rendered, rendered_items, rendered_fields}
 
 mutual
   pub mentions_nothing : (e : Plain) → IsPlainLiteral e → mentions e ≡ []

@@ -17,7 +17,7 @@ use Rattle.cdk_meaning.specs.Literals.{FieldsArePlainLiterals}
 use Rattle.cdk_meaning.specs.Mentions.{Mention, field_mentions}
 use Rattle.cdk_meaning.specs.Names.{IsIn, Each}
 use Rattle.cdk_plain.specs.Plain.{Fields, no_fields}
-use Rattle.cdk_meaning.specs.Rendered.{Homes, rendered, rendered_fields}
+use Rattle.cdk_plain.specs.Rendered.{Homes, rendered, rendered_fields}
 use Rattle.cdk_meaning.specs.ReportKept.{AreResourcesTold, IsResourceTold}
 use Rattle.cdk_meaning.specs.StackTemplate.{homes_of}
 use Rattle.cdk_meaning.proofs.NameLists.{each_more}

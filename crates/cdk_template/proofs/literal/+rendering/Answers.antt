@@ -5,7 +5,7 @@ use Rattle.serde_json.specs.View.{items_of, members_view}
 use Rattle.cdk_language.specs.Expression.{view, expressions_view, fields_view}
 use Rattle.cdk_language.specs.declared.expression.Expr.{Expr}
 use Rattle.cdk_plain.specs.Plain.{no_fields}
-use Rattle.cdk_meaning.specs.Rendered.{rendered_items}
+use Rattle.cdk_plain.specs.Rendered.{rendered_items}
 use Rattle.cdk_template.specs.Literals.{literal_of, no_homes, plains_of}
 use Rattle.cdk_template.proofs.LiteralLemmas.{rendered-plains_of, rendered-with_fields, seen_field, with_literals}
 use Rattle.cdk_template.proofs.literal.+rendering.Goals as goal

@@ -2,7 +2,7 @@ use Rattle.std.proofs.Common.{◌≡◌, drop, map, take}
 use Rattle.serde_json.specs.View.{view as json_view, members_view}
 use Rattle.cdk_language.specs.Expression.{fields_view, view}
 use Rattle.cdk_plain.specs.Plain.{no_fields}
-use Rattle.cdk_meaning.specs.Rendered.{rendered_fields}
+use Rattle.cdk_plain.specs.Rendered.{rendered_fields}
 use Rattle.cdk_template.specs.Literals.{literal_of, no_homes, with_fields}
 use Rattle.cdk_template.proofs.LiteralLemmas.{with_literals}
 use Rattle.cdk_template.proofs.literal.+rendering.Given as goal
