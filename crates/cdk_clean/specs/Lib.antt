@@ -1,0 +1,2 @@
+pub mod CleanConstruct
+pub mod Laws
