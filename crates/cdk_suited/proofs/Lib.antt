@@ -1,0 +1,2 @@
+pub mod SuitedOrders
+mod Instance

@@ -1,0 +1,11 @@
+-- An order of a sound application's lazies suits the check of sizes: what is mentioned anywhere is a lazy, and each lazy stands in it.
+use Rattle.cdk_lazies.proofs.LawTargets.{lazy_orders_are_orders, mentioned_is_lazy}
+use Rattle.cdk_lazies.proofs.LawTokens.{tokens_are_downward}
+use Rattle.cdk_suited.specs.Laws.{LazyOrdersSuit}
+
+pub lazy_orders_suit : LazyOrdersSuit
+lazy_orders_suit cs sound order is = record {
+  lazies = is.lazies;
+  behind = lazy_orders_are_orders cs sound order is;
+  all = λ d m mentioned. is.whole (tokens_are_downward cs sound) m (mentioned_is_lazy cs sound d m mentioned);
+}
