@@ -1,5 +1,5 @@
 -- Which values are joins whose items may stand in their place (CloudFormation: Fn::Join).
-use Rattle.std.specs.Prelude.{ℕ, List, [], ◌∷◌, Bool, true, false, Option, Some, None, is_some, if◌then◌else◌, bytes_eq}
+use Rattle.std.specs.Prelude.{ℕ, List, [], Bool, true, false, Option, Some, None, is_some, if◌then◌else◌, bytes_eq}
 use Rattle.serde_json.specs.Data.{Data, string, array, Items, no_items, item, Members, no_members, member}
 use Rattle.serde_json.specs.Find.{as_str}
 
