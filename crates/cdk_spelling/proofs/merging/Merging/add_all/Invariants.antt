@@ -1,0 +1,12 @@
+use Rattle.std.proofs.Common.{◌≡◌, length}
+use Rattle.std.specs.Vec.Iter.{into_iter_items, into_iter_len}
+use Rattle.serde_json.specs.Data.{Items}
+use Rattle.serde_json.specs.View.{items_view}
+use Rattle.cdk_plain.specs.Rendered.{and_items}
+use Rattle.cdk_spelling.specs.Merging.{continued_by}
+use Rattle.cdk_spelling.proofs.merging.Merging.add_all.Given as goal
+
+abbrev pub invariant-loop-part : goal.invariant-loop-part
+invariant-loop-part l =
+    (into_iter_len l.part-iterator ≡ length (into_iter_items l.part-iterator))
+    × ((more : Items) → continued_by l.self (and_items (items_view (into_iter_items l.part-iterator)) more) ≡ continued_by l.initial.self (and_items (items_view l.fn.parts.items) more))

@@ -1,0 +1,4 @@
+pub mod Assembled
+pub mod Joins
+pub mod Merging
+pub mod Spelled
