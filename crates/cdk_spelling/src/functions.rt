@@ -1,5 +1,4 @@
-// Intrinsic functions at arguments that are rendered (CloudFormation's intrinsic function reference). Each call that makes
-// one answers `AllocError` where no memory is found, and nothing else fails.
+// Intrinsic functions at arguments that are rendered (CloudFormation's intrinsic function reference).
 ghost use Rattle.std.specs.Prelude.{◌≡◌, [], IfOk, codes};
 ghost use Rattle.serde_json.specs.Data.{array, item, no_items, number, string, unsigned};
 ghost use Rattle.serde_json.specs.View.{view, items_view};

@@ -1,4 +1,6 @@
-//! The template JSON of single forms, made of parts that are rendered already.
+//! The template JSON of single forms, made of parts that are rendered already. Parts are moved, not copied.
+//!
+//! A call that makes a value answers `AllocError` where no memory is found, and has no other error.
 #![tactic(auto)]
 
 mod functions;

@@ -21,7 +21,7 @@ fn push_text(items: &mut Vec<Value>, text: String) -> Result<(), AllocError>
     push(items, Value::String(text))
 }
 
-/// Parts that are merged so far. Texts that meet are written behind one another, so each byte is copied once.
+/// Parts that are merged so far. Texts that meet are written behind one another, so their bytes are copied once each.
 #[derive(Drop)]
 pub struct Merging {
     alloc: Global,
@@ -47,11 +47,11 @@ impl Merging {
     fn add_text(&mut self, text: String) -> Result<(), AllocError>
         ensures { OnOk result ((more : Items) → continued_by self.new more ≡ continued_by self.old (item (string (string_bytes text)) more)) }
     {
-        if self.text.as_str().is_empty() {
-            self.text = text;
-            return Ok(());
+        if !self.text.as_str().is_empty() {
+            return self.text.push_str(text.as_str());
         }
-        self.text.push_str(text.as_str())
+        self.text = text;
+        Ok(())
     }
 
     /// Adds a value that is no literal.
