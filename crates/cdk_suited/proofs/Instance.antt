@@ -14,8 +14,9 @@ use Rattle.cdk_language.specs.Application.{application_of}
 use Rattle.cdk_language.specs.Construct.{Application, child, Construct, construct, Head, lazy, no_constructs, resource, root, stack}
 use Rattle.cdk_language.specs.Expression as expression
 use Rattle.cdk_lazies.specs.LazyOrder.{IsHeld, IsLazy, IsLazyOrder}
+use Rattle.cdk_resolve.specs.Ready.{IsReady}
 use Rattle.cdk_sizes.specs.Ordered.{SuitsLazies}
-use Rattle.cdk_suited.proofs.SuitedOrders.{lazy_orders_suit}
+use Rattle.cdk_suited.proofs.SuitedOrders.{lazy_orders_are_ready, lazy_orders_suit}
 use Rattle.cdk_tokens.specs.Contexts.{context_findings}
 use Rattle.cdk_tokens.specs.Token as token
 use Rattle.cdk_tokens.specs.Token.{Token}
@@ -122,7 +123,11 @@ stands (suc (suc (suc (suc m)))) is = no_lazy is
 is_lazy_order : IsLazyOrder placed ts ms order
 is_lazy_order = record { lazies = is_the_lazy; once = stands_once; behind = stands_behind; least = stands_least; whole = λ down m is. stands m is }
 
+is_order : IsLazyOrder placed (tokens_of placed) (marking placed) order
+is_order = subst (λ (us : List Token). IsLazyOrder placed us (marking placed) order) (sym are_tokens) (subst (λ (ns : List MarkedBody). IsLazyOrder placed ts ns order) (sym are_marked) is_lazy_order)
+
 suits : SuitsLazies placed (tokens_of placed) (marking placed) order
-suits =
-    lazy_orders_suit placed sound order
-    (subst (λ (us : List Token). IsLazyOrder placed us (marking placed) order) (sym are_tokens) (subst (λ (ns : List MarkedBody). IsLazyOrder placed ts ns order) (sym are_marked) is_lazy_order))
+suits = lazy_orders_suit placed sound order is_order
+
+ready : IsReady (tokens_of placed) (marking placed) order
+ready = lazy_orders_are_ready placed sound order is_order
