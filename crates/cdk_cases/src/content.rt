@@ -1,27 +1,12 @@
 // Texts of the cases: written out, taken from a file of `data/`, or made by a rule.
-use crate::trouble::Trouble;
+use crate::members::{number_member, text_member};
 use cdk_base::Value;
 use cdk_outside::Files;
-use std::alloc::Global;
-
-// The most bytes of a file of `data/`.
-const MOST_BYTES: usize = 16_777_216;
-
-/// The text of a file.
-pub fn text_of_file<F: Files>(
-    alloc: Global,
-    source: &mut F,
-    name: &str,
-) -> Result<String, Trouble> {
-    let Ok(bytes) = source.read(alloc, name, MOST_BYTES) else {
-        return Err(Trouble::Data);
-    };
-    let text = str::from_utf8(bytes.as_slice()).map_err(|_| Trouble::Data)?;
-    Ok(String::from_str(alloc, text)?)
-}
+use cdk_tally::{Trouble, text_of_file};
+use std::alloc::{AllocError, Global};
 
 // A text so many times, one behind another.
-fn repeated(alloc: Global, text: &str, times: u64) -> Result<String, Trouble> {
+fn repeated(alloc: Global, text: &str, times: u64) -> Result<String, AllocError> {
     let mut all = String::new(alloc);
     for _ in 0..times {
         all.push_str(text)?;
@@ -29,21 +14,36 @@ fn repeated(alloc: Global, text: &str, times: u64) -> Result<String, Trouble> {
     Ok(all)
 }
 
-// A text for each number from `from` on, so many, with `@0` for the number and `@1` for the next, joined by commas.
-fn counted(alloc: Global, text: &str, from: u64, count: u64) -> Result<String, Trouble> {
+// A text with a number for each mark.
+fn numbered(alloc: Global, text: &str, mark: &str, number: u64) -> Result<String, AllocError> {
+    let digits = number.to_string(alloc)?;
+    text.replace(alloc, mark, digits.as_str())
+}
+
+// A text with a number for each `@0`, and the next one for each `@1`.
+fn counted_piece(alloc: Global, text: &str, number: u64) -> Result<String, AllocError> {
+    let piece = numbered(alloc, text, "@0", number)?;
+    numbered(alloc, piece.as_str(), "@1", number.saturating_add(1))
+}
+
+fn push_counted(
+    alloc: Global,
+    all: &mut String,
+    text: &str,
+    number: u64,
+) -> Result<(), AllocError> {
+    let piece = counted_piece(alloc, text, number)?;
+    if !all.is_empty() {
+        all.push(',')?;
+    }
+    all.push_str(piece.as_str())
+}
+
+// A text for each number from `from` on, so many, joined by commas.
+fn counted(alloc: Global, text: &str, from: u64, count: u64) -> Result<String, AllocError> {
     let mut all = String::new(alloc);
     for step in 0..count {
-        let number = from.saturating_add(step).to_string(alloc)?;
-        let next = from
-            .saturating_add(step)
-            .saturating_add(1)
-            .to_string(alloc)?;
-        let piece = text.replace(alloc, "@0", number.as_str())?;
-        let piece = piece.as_str().replace(alloc, "@1", next.as_str())?;
-        if step > 0 {
-            all.push(',')?;
-        }
-        all.push_str(piece.as_str())?;
+        push_counted(alloc, &mut all, text, from.saturating_add(step))?;
     }
     Ok(all)
 }
@@ -54,50 +54,71 @@ fn first_half(alloc: Global, text: &str) -> Result<String, Trouble> {
     Ok(String::from_str(alloc, half)?)
 }
 
-fn number_of(rule: &Value, key: &str) -> Result<u64, Trouble> {
-    rule.get(key).and_then(Value::as_u64).ok_or(Trouble::Data)
+fn half_of_file<F: Files>(alloc: Global, source: &mut F, name: &str) -> Result<String, Trouble> {
+    let text = text_of_file(alloc, source, name)?;
+    first_half(alloc, text.as_str())
 }
 
-// One piece: a text, or one rule in an object.
-fn piece<F: Files>(alloc: Global, source: &mut F, rule: &Value) -> Result<String, Trouble> {
-    if let Some(text) = rule.as_str() {
-        return Ok(String::from_str(alloc, text)?);
-    }
-    if rule.is_null() {
-        return Ok(String::new(alloc));
-    }
-    if let Some(name) = rule.get("data").and_then(Value::as_str) {
+fn repeated_by(alloc: Global, rule: &Value) -> Result<String, Trouble> {
+    let text = text_member(rule, "repeat")?;
+    let times = number_member(rule, "times")?;
+    Ok(repeated(alloc, text, times)?)
+}
+
+fn counted_by(alloc: Global, rule: &Value) -> Result<String, Trouble> {
+    let text = text_member(rule, "each")?;
+    let from = number_member(rule, "from")?;
+    let count = number_member(rule, "count")?;
+    Ok(counted(alloc, text, from, count)?)
+}
+
+// The text of one rule in an object.
+fn made<F: Files>(alloc: Global, source: &mut F, rule: &Value) -> Result<String, Trouble> {
+    if let Ok(name) = text_member(rule, "data") {
         return text_of_file(alloc, source, name);
     }
-    if let Some(name) = rule.get("half").and_then(Value::as_str) {
-        let text = text_of_file(alloc, source, name)?;
-        return first_half(alloc, text.as_str());
+    if let Ok(name) = text_member(rule, "half") {
+        return half_of_file(alloc, source, name);
     }
-    if let Some(text) = rule.get("repeat").and_then(Value::as_str) {
-        return repeated(alloc, text, number_of(rule, "times")?);
+    if rule.get("repeat").is_some() {
+        return repeated_by(alloc, rule);
     }
-    let text = rule
-        .get("each")
-        .and_then(Value::as_str)
-        .ok_or(Trouble::Data)?;
-    counted(
-        alloc,
-        text,
-        number_of(rule, "from")?,
-        number_of(rule, "count")?,
-    )
+    counted_by(alloc, rule)
+}
+
+// One piece: a text, nothing, or one rule in an object.
+fn piece<F: Files>(alloc: Global, source: &mut F, rule: &Value) -> Result<String, Trouble> {
+    match rule {
+        Value::Null => Ok(String::new(alloc)),
+        Value::String(text) => Ok(String::from_str(alloc, text.as_str())?),
+        _ => made(alloc, source, rule),
+    }
+}
+
+fn push_piece<F: Files>(
+    alloc: Global,
+    source: &mut F,
+    all: &mut String,
+    rule: &Value,
+) -> Result<(), Trouble> {
+    let piece = piece(alloc, source, rule)?;
+    Ok(all.push_str(piece.as_str())?)
+}
+
+fn joined<F: Files>(alloc: Global, source: &mut F, rules: &[Value]) -> Result<String, Trouble> {
+    let mut all = String::new(alloc);
+    for rule in rules {
+        push_piece(alloc, source, &mut all, rule)?;
+    }
+    Ok(all)
 }
 
 /// The text that a case gives: one piece, or an array of pieces that are joined. A piece is a text, null (no text), `{"data": NAME}`
 /// (a file of `data/`), `{"half": NAME}` (the first half of one), `{"repeat": TEXT, "times": N}`, or
-/// `{"each": TEXT, "from": N, "count": N}` (the text for each number, with commas between).
+/// `{"each": TEXT, "from": N, "count": N}` (the text for each number, with `@0` for it and `@1` for the next, joined by commas).
 pub fn content<F: Files>(alloc: Global, source: &mut F, rule: &Value) -> Result<String, Trouble> {
-    let Some(rules) = rule.as_array() else {
-        return piece(alloc, source, rule);
-    };
-    let mut all = String::new(alloc);
-    for rule in rules {
-        all.push_str(piece(alloc, source, rule)?.as_str())?;
+    match rule.as_array() {
+        Some(rules) => joined(alloc, source, rules.as_slice()),
+        None => piece(alloc, source, rule),
     }
-    Ok(all)
 }

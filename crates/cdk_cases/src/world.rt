@@ -1,7 +1,8 @@
 // Files and streams in memory for one run.
-use crate::trouble::Trouble;
+use crate::members::items_of;
 use cdk_base::{List, Text, Value};
 use cdk_outside::{MemFiles, MemSink};
+use cdk_tally::Trouble;
 use cdk_tool::{Status, run};
 use std::alloc::Global;
 
@@ -18,30 +19,46 @@ pub struct World {
     pub err: MemSink,
 }
 
+fn push_numbers(list: &mut List<u64>, numbers: &Value) -> Result<(), Trouble> {
+    for number in items_of(numbers)? {
+        list.push(number.as_u64().ok_or(Trouble::Data)?)?;
+    }
+    Ok(())
+}
+
 // The numbers of the calls that fail, by the case's key.
 fn calls(alloc: Global, case: &Value, key: &str) -> Result<List<u64>, Trouble> {
     let mut list = List::new(alloc);
-    if let Some(numbers) = case.get(key).and_then(Value::as_array) {
-        for number in numbers {
-            list.push(number.as_u64().ok_or(Trouble::Data)?)?;
-        }
+    if let Some(numbers) = case.get(key) {
+        push_numbers(&mut list, numbers)?;
     }
     Ok(list)
+}
+
+fn room_of(case: &Value) -> usize {
+    match case.get("room").and_then(Value::as_u64) {
+        Some(room) => room as usize,
+        None => ROOM,
+    }
+}
+
+fn sink(alloc: Global, case: &Value, key: &str) -> Result<MemSink, Trouble> {
+    let failing = calls(alloc, case, key)?;
+    Ok(MemSink::new(alloc, failing, ROOM)?)
+}
+
+fn files(alloc: Global, case: &Value) -> Result<MemFiles, Trouble> {
+    let failing = calls(alloc, case, "failingFiles")?;
+    Ok(MemFiles::new(alloc, failing, DIRECTORIES, room_of(case))?)
 }
 
 impl World {
     /// No files yet, with the room and the failing calls that a case gives.
     pub fn new(alloc: Global, case: &Value) -> Result<Self, Trouble> {
-        let room = match case.get("room").and_then(Value::as_u64) {
-            Some(room) => room as usize,
-            None => ROOM,
-        };
-        let failing = calls(alloc, case, "failingFiles")?;
-        Ok(World {
-            files: MemFiles::new(alloc, failing, DIRECTORIES, room)?,
-            out: MemSink::new(alloc, calls(alloc, case, "failingOut")?, ROOM)?,
-            err: MemSink::new(alloc, calls(alloc, case, "failingErr")?, ROOM)?,
-        })
+        let out = sink(alloc, case, "failingOut")?;
+        let err = sink(alloc, case, "failingErr")?;
+        let files = files(alloc, case)?;
+        Ok(World { files, out, err })
     }
 
     /// Runs the tool over it with these words.

@@ -1,4 +1,5 @@
 // Why no case can be run.
+use cdk_outside::ReadError;
 use std::alloc::AllocError;
 
 /// What keeps the cases from being run.
@@ -23,5 +24,14 @@ impl Trouble {
 impl From<AllocError> for Trouble {
     fn from(_: AllocError) -> Self {
         Trouble::Memory
+    }
+}
+
+impl From<ReadError> for Trouble {
+    fn from(error: ReadError) -> Self {
+        match error {
+            ReadError::Memory => Trouble::Memory,
+            ReadError::TooLong | ReadError::Failed => Trouble::Data,
+        }
     }
 }
