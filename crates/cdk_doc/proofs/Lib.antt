@@ -1,5 +1,3 @@
-pub mod ConditionLemmas
-pub mod ConstructLemmas
 pub mod Firsts
 pub mod LawArguments
 pub mod LawBodies
@@ -9,7 +7,4 @@ pub mod LawExpressions
 pub mod LawHeads
 pub mod LawMembers
 pub mod LawPlaces
-pub mod Pieces
-pub mod Reading
 pub mod Seen
-pub mod Variables

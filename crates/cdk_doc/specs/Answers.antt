@@ -68,6 +68,11 @@ IsSettingsFault faults.Memory settings = Unit {0}
 IsSettingsFault (faults.App code place) settings = first (setting_findings settings) ≡ Some (record { code = code; place = place })
 IsSettingsFault (faults.Refused place name text) settings = ⊥
 
+-- what settings make of an application, or their fault
+abbrev pub LaidAnswer : {X : Type 0} → Result X Fault → Application → Application → List Setting → Type 0
+LaidAnswer (Ok x) old new settings = (setting_findings settings ≡ []) × (new ≡ with_settings old settings)
+LaidAnswer (Err fault) old new settings = IsSettingsFault fault settings
+
 abbrev pub SettingsAnswer : Result App Fault → Application → List Setting → Type 0
 SettingsAnswer (Ok app) old settings = (setting_findings settings ≡ []) × (app_view app ≡ with_settings old settings)
 SettingsAnswer (Err fault) old settings = IsSettingsFault fault settings

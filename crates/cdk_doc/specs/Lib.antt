@@ -1,4 +1,1 @@
 pub mod Answers
-pub mod Gives
-pub mod Steps
-pub mod Views

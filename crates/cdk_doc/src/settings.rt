@@ -1,10 +1,10 @@
 // Settings laid over the context of an application's root.
-ghost use Rattle.std.specs.Prelude.{◌≡◌, [], IfOk, OnOk, MatchOption};
+ghost use Rattle.std.specs.Prelude.{◌≡◌, [], OnOk, MatchOption};
 ghost use Rattle.serde_json.specs.View.{members_view};
 ghost use Rattle.cdk_language.specs.Application.{laid_over as laid_over_members, with_settings as with_settings_laid};
 ghost use Rattle.cdk_language.specs.Construct.{app_view};
 ghost use Rattle.cdk_language.specs.Findings.{setting_findings};
-ghost use Rattle.cdk_doc.specs.Answers.{SettingsAnswer, IsSettingsFault, fault_of as fault_of_finding};
+ghost use Rattle.cdk_doc.specs.Answers.{SettingsAnswer, LaidAnswer, IsSettingsFault, fault_of as fault_of_finding};
 
 use cdk_base::{Fault, Map, Setting, Value};
 use cdk_findings::first_setting_finding;
@@ -42,12 +42,22 @@ fn lay_over(alloc: Global, context: &mut Map, settings: &[Setting]) -> Result<()
     Ok(())
 }
 
-fn app_with(alloc: Global, app: App, settings: &[Setting]) -> Result<App, AllocError>
-    ensures { IfOk result (λ a. app_view a ≡ with_settings_laid (app_view app) settings.now) }
+fn lay_over_root(alloc: Global, app: &mut App, settings: &[Setting]) -> Result<(), AllocError>
+    ensures { OnOk result (app_view app.new ≡ with_settings_laid (app_view app.old) settings.now) }
 {
-    let mut app = app;
-    lay_over(alloc, &mut app.root.context, settings)?;
-    Ok(app)
+    lay_over(alloc, &mut app.root.context, settings)
+}
+
+fn lay_settings(alloc: Global, app: &mut App, settings: &[Setting]) -> Result<(), Fault>
+    ensures { LaidAnswer result (app_view app.old) (app_view app.new) settings.now }
+{
+    if let Some(fault) = settings_fault(alloc, settings) {
+        return Err(fault);
+    }
+    match lay_over_root(alloc, app, settings) {
+        Ok(()) => Ok(()),
+        Err(_) => Err(Fault::Memory),
+    }
 }
 
 /// The application with the settings laid over its root's context, in their order: of two with one key the later
@@ -56,11 +66,7 @@ fn app_with(alloc: Global, app: App, settings: &[Setting]) -> Result<App, AllocE
 pub fn with_settings(alloc: Global, app: App, settings: &[Setting]) -> Result<App, Fault>
     ensures { SettingsAnswer result (app_view app) settings.now }
 {
-    if let Some(fault) = settings_fault(alloc, settings) {
-        return Err(fault);
-    }
-    let Ok(app) = app_with(alloc, app, settings) else {
-        return Err(Fault::Memory);
-    };
+    let mut app = app;
+    lay_settings(alloc, &mut app, settings)?;
     Ok(app)
 }

@@ -1,5 +1,6 @@
 pub mod Escaped
 pub mod Firsts
+pub mod FormNames
 pub mod Numerals
 pub mod Opening
 pub mod SubRuns

@@ -6,22 +6,12 @@ ghost use Rattle.cdk_language.specs.Schema.{is_form_name as spec_is_form_name, i
 
 use cdk_base::{Map, Value};
 use cdk_language::Within;
+use cdk_members::{form_named, only_member};
 
 fn is_form_name(key: &str) -> bool
     ensures { result ≡ spec_is_form_name key.now }
 {
-    key == "Ref"
-        || key == "Fn::GetAtt"
-        || key == "Fn::Join"
-        || key == "Fn::Select"
-        || key == "Fn::Split"
-        || key == "Fn::If"
-        || key == "Fn::FindInMap"
-        || key == "Fn::ImportValue"
-        || key == "Fn::Sub"
-        || key == "CDK::Concat"
-        || key == "CDK::Context"
-        || key == "CDK::Lazy"
+    form_named(key).is_some()
 }
 
 fn is_no_value(value: &Value) -> bool
@@ -52,13 +42,9 @@ fn is_barred(within: Within, key: &str, value: &Value) -> bool
 pub fn is_form(within: Within, members: &Map) -> bool
     ensures { result ≡ spec_is_form within (members_view members.now.entries) }
 {
-    let mut entries = members.iter();
-    let Some((key, member)) = entries.next() else {
+    let Some((key, member)) = only_member(members) else {
         return false;
     };
-    if entries.next().is_some() {
-        return false;
-    }
     is_form_name(key.as_str()) && !is_barred(within, key.as_str(), member)
 }
 
@@ -76,12 +62,8 @@ fn is_condition_name(key: &str) -> bool
 pub fn is_condition_form(members: &Map) -> bool
     ensures { result ≡ spec_is_condition_form (members_view members.now.entries) }
 {
-    let mut entries = members.iter();
-    let Some((key, _member)) = entries.next() else {
+    let Some((key, _member)) = only_member(members) else {
         return false;
     };
-    if entries.next().is_some() {
-        return false;
-    }
     is_condition_name(key.as_str())
 }

@@ -3,7 +3,6 @@
 
 mod first;
 mod forms;
-pub mod members;
 mod pointer;
 mod roles;
 mod runs;

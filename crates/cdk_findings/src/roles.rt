@@ -6,37 +6,12 @@ ghost use Rattle.cdk_language.specs.declared.schema.KindName.TheVariants as kind
 ghost use Rattle.cdk_language.specs.declared.schema.Role.TheVariants as roles;
 ghost use Rattle.cdk_language.specs.declared.schema.Schema.TheVariants as schemas;
 ghost use Rattle.cdk_language.specs.Application.{text_at as spec_text_at};
-ghost use Rattle.cdk_language.specs.Schema.{kind_named as spec_kind_named, kind_in as spec_kind_in, needed_member as spec_needed_member, schema_named as spec_schema_named, frame_of as spec_frame_of, document_member as spec_document_member, in_schema_2 as spec_in_schema_2, element_member as spec_element_member, kind_member as spec_kind_member, construct_member as spec_construct_member, entry_member as spec_entry_member, form_member as spec_form_member, condition_member as spec_condition_member, member_role as spec_member_role, first_else as spec_first_else, item_role as spec_item_role};
+ghost use Rattle.cdk_language.specs.Schema.{kind_in as spec_kind_in, needed_member as spec_needed_member, schema_named as spec_schema_named, frame_of as spec_frame_of, document_member as spec_document_member, in_schema_2 as spec_in_schema_2, element_member as spec_element_member, kind_member as spec_kind_member, construct_member as spec_construct_member, entry_member as spec_entry_member, form_member as spec_form_member, condition_member as spec_condition_member, member_role as spec_member_role, first_else as spec_first_else, item_role as spec_item_role};
+ghost use Rattle.cdk_findings.specs.Arguments.{argument_role as spec_argument_role};
 
-use crate::members::{has_form_key, is_form_key, text_at};
 use cdk_base::Map;
 use cdk_language::{Frame, KindName, Role, Schema, Within, is_variable_name};
-
-fn kind_named(name: &str) -> Option<KindName>
-    ensures { result ≡ spec_kind_named name.now }
-{
-    if name == "stage" {
-        Some(KindName::Stage)
-    } else if name == "stack" {
-        Some(KindName::Stack)
-    } else if name == "group" {
-        Some(KindName::Group)
-    } else if name == "resource" {
-        Some(KindName::Resource)
-    } else if name == "parameter" {
-        Some(KindName::Parameter)
-    } else if name == "condition" {
-        Some(KindName::Condition)
-    } else if name == "mapping" {
-        Some(KindName::Mapping)
-    } else if name == "output" {
-        Some(KindName::Output)
-    } else if name == "lazy" {
-        Some(KindName::Lazy)
-    } else {
-        None
-    }
-}
+use cdk_members::{FormName, form_named, has_form_key, is_form_key, kind_named, text_at};
 
 /// The kind that a construct's `kind` names.
 pub fn kind_in(members: &Map) -> Option<KindName>
@@ -307,35 +282,32 @@ fn entry_member(schema: Schema, key: &str) -> Role
     }
 }
 
+/// The role of a form's argument.
+fn argument_role(within: Within, form: FormName) -> Role
+    ensures { result ≡ spec_argument_role within form }
+{
+    match form {
+        FormName::Ref => Role::Text,
+        FormName::GetAtt => Role::GetAttArguments,
+        FormName::Join => Role::JoinArguments(within),
+        FormName::Select => Role::SelectArguments(within),
+        FormName::Split => Role::SplitArguments(within),
+        FormName::If => Role::IfArguments(within),
+        FormName::FindInMap => Role::FindInMapArguments(within),
+        FormName::ImportValue => Role::NonEmptyText,
+        FormName::Sub => Role::SubArgument(within),
+        FormName::Concat => Role::ConcatArguments(within),
+        FormName::Context => Role::ContextArguments,
+        FormName::Lazy => Role::Text,
+    }
+}
+
 fn form_member(within: Within, key: &str) -> Role
     ensures { result ≡ spec_form_member within key.now }
 {
-    if key == "Ref" {
-        Role::Text
-    } else if key == "Fn::GetAtt" {
-        Role::GetAttArguments
-    } else if key == "Fn::Join" {
-        Role::JoinArguments(within)
-    } else if key == "Fn::Select" {
-        Role::SelectArguments(within)
-    } else if key == "Fn::Split" {
-        Role::SplitArguments(within)
-    } else if key == "Fn::If" {
-        Role::IfArguments(within)
-    } else if key == "Fn::FindInMap" {
-        Role::FindInMapArguments(within)
-    } else if key == "Fn::ImportValue" {
-        Role::NonEmptyText
-    } else if key == "Fn::Sub" {
-        Role::SubArgument(within)
-    } else if key == "CDK::Concat" {
-        Role::ConcatArguments(within)
-    } else if key == "CDK::Context" {
-        Role::ContextArguments
-    } else if key == "CDK::Lazy" {
-        Role::Text
-    } else {
-        Role::Nothing
+    match form_named(key) {
+        Some(form) => argument_role(within, form),
+        None => Role::Nothing,
     }
 }
 

@@ -11,10 +11,10 @@ ghost use Rattle.cdk_language.specs.SubView.{piece_view};
 ghost use Rattle.cdk_language.specs.declared.schema.Within.TheVariants as within;
 ghost use Rattle.cdk_findings.specs.Reads.{Reads, step as spec_step};
 
-use crate::members::member;
 use crate::texts::is_wrong_sub_text;
 use cdk_base::{Map, Value};
 use cdk_language::{FirstPiece, Role, SubPiece, Within, first_piece, is_variable_name};
+use cdk_members::member;
 use std::alloc::AllocError;
 
 /// How many bytes of `${Token[` or `#{Token[` the end of the run matches: 8 where the run holds one.

@@ -5,13 +5,13 @@ ghost use Rattle.cdk_language.specs.Sub.{is_attribute as spec_is_attribute};
 ghost use Rattle.cdk_language.specs.Schema as spec;
 
 use crate::forms::{is_condition_form, is_form};
-use crate::members::{has_form_key, lacks};
 use crate::roles::{kind_in, needed_member};
 use crate::texts::{
     is_export_name, is_filled, is_parameter_type, is_policy_name, is_schema_name, is_wrong_sub_text,
 };
 use cdk_base::{Map, Value};
 use cdk_language::{Role, Within, is_attribute};
+use cdk_members::{has_form_key, lacks};
 use serde_json::Number;
 
 fn is_null(value: &Value) -> bool

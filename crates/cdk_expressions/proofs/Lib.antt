@@ -1,0 +1,3 @@
+pub mod ConditionLemmas
+pub mod FormLemmas
+pub mod Reading

@@ -1,0 +1,15 @@
+//! Looking at the parts of a JSON value: the members of an object, the items of a short array, the form of an expression
+//! and the kind of a construct that a text names. What reads a value may answer that it has no reading.
+#![tactic(auto)]
+
+mod error;
+mod forms;
+mod items;
+mod kinds;
+mod members;
+
+pub use error::ReadError;
+pub use forms::{FormName, form_named};
+pub use items::{one_of, three_of, two_of};
+pub use kinds::kind_named;
+pub use members::{has_form_key, is_form_key, lacks, member, only_member, text_at};
