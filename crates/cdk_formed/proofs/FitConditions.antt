@@ -1,11 +1,11 @@
 -- The plain forms of conditions of a formed tree are well, and their operands are ordered.
-use Rattle.std.proofs.Common.{◌≡◌, ◌<◌, ℕ, zero, suc, ◌+◌, List, [], ◌∷◌, ◌++◌, length, true, codes, refl, ap, ◌∙◌, subst}
+use Rattle.std.proofs.Common.{◌≡◌, ℕ, zero, suc, ◌+◌, List, [], ◌∷◌, ◌++◌, length, true, codes, refl, ap, ◌∙◌, subst}
 use Rattle.std.specs.Prelude.{◌&&◌, nat_le, slice_get, ⊤}
 use Rattle.std.specs.Option.{option_map_or}
 use Rattle.std.proofs.lemmas.Bool.{and_from, le-leb}
 use Rattle.serde_json.specs.Data.{array, item, no_items, string}
 use Rattle.cdk_elements.specs.Elements.{own_condition, own_operand, own_value}
-use Rattle.cdk_expansion.specs.Clean.{IsClean, ListIsClean, TreeIsClean}
+use Rattle.cdk_expansion.specs.Clean.{ListIsClean, TreeIsClean}
 use Rattle.cdk_expansion.specs.Conditions.{condition_plain, conditions_plain}
 use Rattle.cdk_formed.specs.Formed.{AreFew, AreFormedConditions, IsFormed, IsFormedBody, IsFormedCondition, TreeIsFormed, part_count}
 use Rattle.cdk_formed.specs.Laws.{ConditionsAreCanonical, ConditionsAreWell, ConditionsHaveOneMember}
@@ -13,7 +13,6 @@ use Rattle.cdk_formed.proofs.FitFields.{IsFit}
 use Rattle.cdk_formed.proofs.FitForms.{expression_fit}
 use Rattle.cdk_language.specs.Condition as condition
 use Rattle.cdk_language.specs.Condition.{Condition, Conditions}
-use Rattle.cdk_language.specs.Construct as construct
 use Rattle.cdk_language.specs.Expression.{Expression}
 use Rattle.cdk_meaning.specs.Canonical.{HasOrderedOperands, HaveOrderedOperands}
 use Rattle.cdk_meaning.proofs.Canonical.{rendered_condition_is_canonical}
@@ -21,7 +20,7 @@ use Rattle.cdk_plain.specs.Plain as plain
 use Rattle.cdk_plain.specs.Plain.{AreWellConditions, IsWellCondition, Plain, are_few, condition_count, text}
 use Rattle.cdk_plain.specs.Rendered.{rendered, rendered_condition, rendered_conditions, two}
 use Rattle.cdk_tokens.specs.Whole.{expressions_in, operands_of, operands_of_all}
-use Rattle.cdk_tree.specs.Placed.{Placed, construct_at}
+use Rattle.cdk_tree.specs.Placed.{Placed}
 
 -- ---- operands
 

@@ -1,10 +1,8 @@
 -- Plain forms that are well and ordered, the object that a field is put into, and literals.
-use Rattle.std.proofs.Common.{◌≡◌, ℕ, List, false, Ordering, Less, Equal, Greater, nat_cmp, is_eq, pos, negsuc, refl, sym, ap, ◌∙◌}
+use Rattle.std.proofs.Common.{◌≡◌, ℕ, List, false, Ordering, Less, Equal, Greater, nat_cmp, pos, negsuc, refl, ap, ◌∙◌}
 use Rattle.std.specs.Cmp.Lexicographic.{slice_cmp}
 use Rattle.std.specs.Ordering.{match_ordering, ordering_reverse}
 use Rattle.std.proofs.lemmas.Cmp.{nat_list_cmp_total}
-use Rattle.std.proofs.lemmas.Map.Text.{is_eq-slice_cmp}
-use Rattle.std.proofs.lemmas.Slice.Eq.{bytes_eq-Decides}
 use Rattle.serde_json.specs.Data.{unsigned, negative, float, Data, null, boolean, number, string, array, object, Items, no_items, item, Members, no_members, member}
 use Rattle.cdk_base.specs.Json.{is_intrinsic_key}
 use Rattle.cdk_base.specs.Pretty.{AllAbove, ItemsAreCanonical, MembersAreCanonical}

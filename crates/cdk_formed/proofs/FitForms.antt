@@ -1,5 +1,5 @@
 -- The plain forms of a formed tree are well and ordered.
-use Rattle.std.proofs.Common.{◌≡◌, ◌<◌, ◌≤◌, ◌^◌, ℕ, zero, suc, pos, negsuc, ℤ, ◌⊎◌, inl, inr, List, [], ◌∷◌, length, true, Option, Some, None, refl, sym, subst}
+use Rattle.std.proofs.Common.{◌≡◌, ◌<◌, ◌≤◌, ◌^◌, ℕ, zero, suc, pos, negsuc, ℤ, ◌⊎◌, inl, inr, List, [], length, true, Option, Some, None, refl, sym, subst}
 use Rattle.std.specs.Prelude.{unwrap_or}
 use Rattle.std.specs.Option.{option_map_or}
 use Rattle.std.proofs.lemmas.Bool.{cases_lt, lt-ltb}
@@ -21,7 +21,7 @@ use Rattle.cdk_meaning.proofs.Canonical.{rendered_is_canonical}
 use Rattle.cdk_plain.specs.Plain as plain
 use Rattle.cdk_plain.specs.Plain.{IsWell, Plain, Plains, num_of, object_of, text, whole}
 use Rattle.cdk_plain.specs.Rendered.{Homes, rendered, rendered_fields}
-use Rattle.cdk_tokens.specs.Marking.{context_value, target}
+use Rattle.cdk_tokens.specs.Marking.{target}
 use Rattle.cdk_tokens.specs.Whole.{expressions_in}
 use Rattle.cdk_tree.specs.Lists.{is_list}
 use Rattle.cdk_tree.specs.Placed.{Placed, construct_at, found_value, nowhere}

@@ -1,10 +1,8 @@
 -- A mapping of a formed tree is an object of objects of leaves, and so no deeper than that.
-use Rattle.std.proofs.Common.{◌≡◌, ◌≤◌, ℕ, suc, true, arith, subst}
-use Rattle.std.specs.Prelude.{is_some}
+use Rattle.std.proofs.Common.{◌≤◌, arith, subst}
 use Rattle.serde_json.specs.Data.{Data, null, boolean, number, string, array, object, Members, no_members, member, depth, members_depth}
 use Rattle.cdk_formed.specs.Formed.{IsFormedBody, IsFormedMapping}
 use Rattle.cdk_formed.specs.Laws.{MappingsAreWell}
-use Rattle.cdk_language.specs.Construct as construct
 use Rattle.cdk_meaning.specs.StackTemplate.{EachMember, IsLeaf, IsRow}
 
 leaf_depth : (d : Data) → IsLeaf d → depth d ≤ 0

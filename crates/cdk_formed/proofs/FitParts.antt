@@ -1,7 +1,7 @@
 -- What the parts of a Concat come to is well and ordered, where the parts are that are no literals.
 use Rattle.std.proofs.Common.{ℕ, List, [], ◌∷◌, ◌++◌, Bool, true, false}
 use Rattle.std.specs.Prelude.{⊤}
-use Rattle.cdk_expansion.specs.Own.{Part, assembled, literal, merge_literal, merged, other, other_part, part_plain, parts_plain}
+use Rattle.cdk_expansion.specs.Own.{Part, assembled, literal, merge_literal, merged, other, other_part, parts_plain}
 use Rattle.cdk_formed.proofs.FitFields.{AreFit, IsFit}
 use Rattle.cdk_plain.specs.Plain.{Plain}
 

@@ -1,10 +1,10 @@
 -- What a construct of a kind has is formed, where nothing is found in its members.
-use Rattle.std.proofs.Common.{◌≡◌, ℕ, List, Bool, true, false, cond, codes, Option, Some, None, option_map, option_and_then, refl, ap, ◌∙◌, subst, is_some}
+use Rattle.std.proofs.Common.{◌≡◌, ℕ, List, Bool, true, false, cond, codes, Option, Some, None, option_map, option_and_then, refl, ap, ◌∙◌, subst}
 use Rattle.std.specs.Prelude.{unwrap_or}
 use Rattle.std.specs.Str.{bytes_eq}
 use Rattle.serde_json.specs.Data.{Data, null, boolean, number, string, array, object, Members, no_members, member}
 use Rattle.serde_json.specs.Find.{as_object, get_member}
-use Rattle.cdk_base.specs.Json.{is_form_key, text_of}
+use Rattle.cdk_base.specs.Json.{is_form_key}
 use Rattle.cdk_base.specs.Marker.{has_marker}
 use Rattle.cdk_base.specs.Pretty.{IsCanonical, MembersAreCanonical}
 use Rattle.cdk_clean.proofs.CleanForms.{anywhere, told}

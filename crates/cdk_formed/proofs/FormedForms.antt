@@ -4,14 +4,14 @@ use Rattle.std.specs.Prelude.{◌||◌, unwrap_or, ⊤}
 use Rattle.std.specs.List.{list_any}
 use Rattle.std.specs.Str.{bytes_eq}
 use Rattle.std.proofs.lemmas.Bool.{not-false}
-use Rattle.serde_json.specs.Data.{unsigned, negative, float, Data, null, boolean, number, string, array, object, Items, no_items, item, Members, no_members, member}
+use Rattle.serde_json.specs.Data.{unsigned, negative, float, Data, null, boolean, number, string, array, object, no_items, item, Members, no_members, member}
 use Rattle.serde_json.specs.Find.{as_number, as_str, as_u64}
 use Rattle.cdk_base.specs.Json.{is_form_key}
 use Rattle.cdk_base.specs.Pretty.{IsOrdered}
 use Rattle.cdk_base.proofs.ReadValues.{IsReadNumber}
 use Rattle.cdk_clean.proofs.CleanForms.{Place, anywhere, list_place, piece, role_of, text_place}
 use Rattle.cdk_clean.proofs.CleanPlaces.{MembersStand, StandsAt, is_right, items_in, members_in, same_key, second_stands}
-use Rattle.cdk_formed.specs.Formed.{AreFormed, FieldsAreFormed, IsFormed, IsFormedIfFound}
+use Rattle.cdk_formed.specs.Formed.{AreFormed, FieldsAreFormed, IsFormed}
 use Rattle.cdk_formed.proofs.FormedLiterals.{literal_formed}
 use Rattle.cdk_language.specs.Application.{context_of, expression_of, fields_of, filled, find_field, form_of, get_att_of, has_form_key, pseudo_of, ref_of, sub_of}
 use Rattle.cdk_language.specs.Expression as expression

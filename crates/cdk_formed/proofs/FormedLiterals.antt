@@ -1,6 +1,6 @@
 -- What is read in the place of a literal is a value that a context may have, and so is that of a setting in which nothing is found.
-use Rattle.std.proofs.Common.{◌≡◌, ℕ, List, [], ◌∷◌, ◌++◌, Bool, true, false, cond, Ordering, Less, Equal, Greater, nat_cmp, Option, Some, None, refl, pos, negsuc}
-use Rattle.std.specs.Prelude.{◌||◌, ⊤}
+use Rattle.std.proofs.Common.{◌≡◌, ℕ, ◌+◌, ◌^◌, List, [], ◌∷◌, Bool, true, false, cond, Ordering, Less, Equal, Greater, nat_cmp, Option, Some, None, refl, pos, negsuc}
+use Rattle.std.specs.Prelude.{⊤}
 use Rattle.std.specs.Cmp.Lexicographic.{slice_cmp}
 use Rattle.std.specs.Option.{option_or}
 use Rattle.std.specs.Ordering.{match_ordering}
@@ -9,18 +9,16 @@ use Rattle.serde_json.specs.Data.{Num, unsigned, negative, float, Data, null, bo
 use Rattle.serde_json.specs.Find.{get_member, is_float}
 use Rattle.cdk_base.specs.Json.{is_form_key, is_intrinsic_key, is_whole}
 use Rattle.cdk_base.specs.Marker.{has_marker}
-use Rattle.cdk_base.specs.Pretty.{IsWhole, ItemsAreCanonical, MembersAreCanonical}
+use Rattle.cdk_base.specs.Pretty.{ItemsAreCanonical, MembersAreCanonical}
 use Rattle.cdk_base.specs.declared.Setting.{Setting}
 use Rattle.cdk_base.proofs.ReadValues.{IsReadNumber}
 use Rattle.cdk_clean.proofs.CleanPlaces.{ItemsStand, MembersStand, StandsAt, first_stands, is_right, items_in, member_stands, members_in, members_stand, no_fraction, nothing_there, rest_stand}
 use Rattle.cdk_formed.specs.Formed.{IsFormedIfFound, IsFormedValue}
 use Rattle.cdk_formed.specs.FormedConstruct.{IsFormedContext}
 use Rattle.cdk_language.specs.Application.{laid_over}
-use Rattle.cdk_language.specs.Findings.{setting_findings}
-use Rattle.cdk_language.specs.declared.finding.Finding.{Finding}
 use Rattle.cdk_language.specs.declared.schema.Frame.TheVariants as frames
 use Rattle.cdk_language.specs.declared.schema.Role.TheVariants as roles
-use Rattle.cdk_meaning.specs.Literals.{AreLiterals, IsLiteral, MembersAreLiterals}
+use Rattle.cdk_meaning.specs.Literals.{AreLiterals, MembersAreLiterals}
 use Rattle.cdk_tree.specs.Placed.{found_value, look_up}
 use Rattle.cdk_written.proofs.Unmarked.{or_false}
 

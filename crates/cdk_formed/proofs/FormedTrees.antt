@@ -1,6 +1,6 @@
 -- The tree of a formed application is formed: what a Context finds stands in a formed context of its construct or of a scope, or is its
 -- default.
-use Rattle.std.proofs.Common.{◌≡◌, ◌<◌, ℕ, zero, suc, ◌+◌, List, [], ◌∷◌, ◌++◌, length, arith}
+use Rattle.std.proofs.Common.{◌<◌, ℕ, zero, suc, ◌+◌, List, [], ◌∷◌, ◌++◌, length, arith}
 use Rattle.cdk_base.specs.declared.Setting.{Setting}
 use Rattle.cdk_formed.specs.Formed.{AreFormed, AreFormedConditions, FieldsAreFormed, IsFormed, IsFormedBody, IsFormedCondition, TreeIsFormed}
 use Rattle.cdk_formed.specs.FormedConstruct.{AreFormedConstructs, IsFormedBodyAlone, IsFormedConstruct}
