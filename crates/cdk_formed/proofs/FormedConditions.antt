@@ -38,8 +38,8 @@ counted (item d ds) =
     made_then (HasParts (suc (items_count ds))) (λ c. option_map (condition.condition c) (conditions_from ds)) (condition_of d)
     (λ c. mapped (HasParts (items_count ds)) (HasParts (suc (items_count ds))) (condition.condition c) (conditions_from ds) (λ cs e. ap suc e) (counted ds))
 
-few_parts : (n m : ℕ) → n ≡ m → (nat_lt m 2 || nat_lt 10 m) ≡ false → (2 ≤ n) × (n ≤ 10)
-few_parts n m same e =
+few_parts : (cs : Conditions) (m : ℕ) → HasParts m cs → (nat_lt m 2 || nat_lt 10 m) ≡ false → AreFew cs
+few_parts cs m same e =
     let two = or_false (nat_lt m 2) (nat_lt 10 m) e in
     let low : 2 ≤ m = ltb-false m 2 two.0 in
     let high : m ≤ 10 = ltb-false 10 m two.1 in
@@ -71,7 +71,7 @@ ArePartsAlone cs = AreFew cs × AreConditionsAlone cs
 parts_of : (marked : Bool) (ds : Items) → StandsAt marked roles.ConditionArguments (array ds) → All AreConditionsAlone (conditions_from ds) → All ArePartsAlone (conditions_from ds)
 parts_of marked ds h formed =
     both_known (HasParts (items_count ds)) AreConditionsAlone ArePartsAlone (conditions_from ds)
-    (λ cs n c. (few_parts (part_count cs) (items_count ds) n (is_right marked roles.ConditionArguments (array ds) h), c)) (counted ds) formed
+    (λ cs n c. (few_parts cs (items_count ds) n (is_right marked roles.ConditionArguments (array ds) h), c)) (counted ds) formed
 
 mutual
   pub condition_read : (marked : Bool) (d : Data) → StandsAt marked roles.Condition d → All IsConditionAlone (condition_of d)
