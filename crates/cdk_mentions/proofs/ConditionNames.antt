@@ -1,9 +1,9 @@
 -- The conditions that a condition names, by their paths and by their numbers: each is found, and a condition of the stack.
-use Rattle.std.proofs.Common.{◌≡◌, ◌<◌, ℕ, ◌+◌, List, [], ◌∷◌, ◌++◌, map, length, Bool, true, false, true≢false, refl, sym, ap, ◌∙◌, subst}
+use Rattle.std.proofs.Common.{◌≡◌, ◌<◌, ℕ, ◌+◌, List, [], ◌∷◌, ◌++◌, map, length, Bool, true, true≢false, refl, sym, ap, ◌∙◌, subst}
 use Rattle.std.specs.Prelude.{◌&&◌}
 use Rattle.std.proofs.lemmas.List.{map-append}
-use Rattle.cdk_elements.specs.Elements.{constructs_in, element_of, own_condition, own_operand, parts_of}
-use Rattle.cdk_elements.specs.Kinds.{is_in, of_kind}
+use Rattle.cdk_elements.specs.Elements.{constructs_in, element_of, own_operand, parts_of}
+use Rattle.cdk_elements.specs.Kinds.{is_in}
 use Rattle.cdk_expansion.specs.Conditions.{condition_plain, conditions_plain}
 use Rattle.cdk_language.specs.Condition as condition
 use Rattle.cdk_language.specs.Condition.{Condition, Conditions}
@@ -18,8 +18,7 @@ use Rattle.cdk_plain.specs.Plain.{Plain}
 use Rattle.cdk_tokens.specs.Marking.{target}
 use Rattle.cdk_tokens.specs.Whole.{operands_of}
 use Rattle.cdk_tree.proofs.Tests.{and_right}
-use Rattle.cdk_tree.specs.Expected as asked
-use Rattle.cdk_tree.specs.Expected.{expected, expected_condition, expected_conditions, is_condition}
+use Rattle.cdk_tree.specs.Expected.{expected_condition, expected_conditions, is_condition}
 use Rattle.cdk_tree.specs.Placed.{Placed, construct_at}
 use Rattle.cdk_tree.specs.declared.role.TargetRole.TheVariants as roles
 use Rattle.cdk_mentions.specs.Laws.{ConditionsAreClosed}

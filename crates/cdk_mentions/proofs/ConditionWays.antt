@@ -1,6 +1,6 @@
 -- A condition that reaches itself by the names of its plain form does so in the graph of mentions, where that was looked for.
-use Rattle.std.proofs.Common.{◌≡◌, ◌<◌, ℕ, zero, suc, ◌+◌, List, [], ◌∷◌, ◌++◌, map, length, Bool, true, false, true≢false, cond, Some, None, refl, sym, ap, ◌∙◌, subst, arith, inl, inr}
-use Rattle.std.specs.Prelude.{◌⊎◌, ◌||◌, ◌==◌, Contains, if◌then◌else◌}
+use Rattle.std.proofs.Common.{◌≡◌, ◌<◌, ℕ, zero, suc, ◌+◌, List, [], ◌∷◌, map, length, Bool, true, false, true≢false, refl, sym, ap, ◌∙◌, subst, arith, inl, inr}
+use Rattle.std.specs.Prelude.{◌||◌, ◌==◌, Contains, if◌then◌else◌}
 use Rattle.std.proofs.lemmas.Bool.{eqb-true}
 use Rattle.std.proofs.lemmas.List.Elements.{Contains-append_left, Contains-append_right}
 use Rattle.cdk_base.specs.declared.code.Code.{Code}
@@ -9,8 +9,6 @@ use Rattle.cdk_expansion.proofs.MentionContains.{contains_first}
 use Rattle.cdk_graphs.specs.Graph.{Graph, ReachesItself, Tells, leads}
 use Rattle.cdk_graphs.specs.Graph as ways
 use Rattle.cdk_graphs.specs.Loops.{LoopsAreFound, reaches_itself}
-use Rattle.cdk_language.specs.Construct as language
-use Rattle.cdk_language.specs.Construct.{Body}
 use Rattle.cdk_lazies.proofs.Closed.{mention_graph_closed}
 use Rattle.cdk_lazies.proofs.Leads.{construct_leads}
 use Rattle.cdk_lazies.specs.CycleFindings.{cycle_code, cycle_findings, cycle_findings_from, cycles_at}
@@ -26,7 +24,6 @@ use Rattle.cdk_tokens.specs.Whole.{MarkedBody, marking, tokens_of}
 use Rattle.cdk_tree.specs.Expected.{is_condition, target_at}
 use Rattle.cdk_tree.specs.PlaceFindings.{when}
 use Rattle.cdk_tree.specs.Placed.{Placed, construct_at, find_path}
-use Rattle.cdk_tree.specs.declared.role.Found.{Found}
 use Rattle.cdk_mentions.specs.Laws.{ConditionsAreFree}
 use Rattle.cdk_mentions.specs.OneTree.{IsOneTree}
 use Rattle.cdk_mentions.proofs.ConditionNames.{IsFound, as_condition, each_condition, names_found, same_names}
@@ -65,10 +62,11 @@ module _ (cs : List Placed) (ts : List Token) (ms : List MarkedBody) where
 
   names_lead : (paths : List (List ℕ)) → Each (IsFound cs true) paths → (d : ℕ) → IsIn d (map (target cs) paths) → Contains (conditions_by cs ts paths) (construct_node ts d) × (is_condition (construct_at cs d).body ≡ true)
   names_lead [] h d i = absurd i
-  names_lead (t ∷ rest) h d (inl same) =
-      (subst (λ k. Contains (conditions_by cs ts (t ∷ rest)) (construct_node ts k)) same
-      (Contains-append_left (condition_node cs ts (find_path cs t)) (conditions_by cs ts rest) (construct_node ts (target cs t)) (node_there t h.0)),
-      subst (λ k. is_condition (construct_at cs k).body ≡ true) same h.0.serving)
+  names_lead (t ∷ rest) h d (inl same) = (
+    subst (λ k. Contains (conditions_by cs ts (t ∷ rest)) (construct_node ts k)) same
+        (Contains-append_left (condition_node cs ts (find_path cs t)) (conditions_by cs ts rest) (construct_node ts (target cs t)) (node_there t h.0)),
+    subst (λ k. is_condition (construct_at cs k).body ≡ true) same h.0.serving,
+  )
   names_lead (t ∷ rest) h d (inr i) =
       let later = names_lead rest h.1 d i in
       (Contains-append_right (condition_node cs ts (find_path cs t)) (conditions_by cs ts rest) (construct_node ts d) later.0, later.1)

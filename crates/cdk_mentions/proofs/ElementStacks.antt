@@ -1,16 +1,14 @@
 -- In a tree of one stack each element stands in that stack: it stands in the stack of its parent, which is a stack of the tree.
-use Rattle.std.proofs.Common.{◌≡◌, ◌<◌, ℕ, ◌+◌, List, [], ◌∷◌, ◌++◌, map, length, Bool, true, false, true≢false, cond, Option, Some, None, refl, sym, ap, ◌∙◌, subst, arith, append_assoc, length-append, inl, inr}
+use Rattle.std.proofs.Common.{◌≡◌, ◌<◌, ℕ, ◌+◌, List, [], ◌∷◌, ◌++◌, length, Bool, true, false, true≢false, cond, Option, Some, None, refl, sym, ap, ◌∙◌, subst, arith, append_assoc, length-append, inl, inr}
 use Rattle.std.specs.Prelude.{◌||◌, ◌&&◌, is_none, is_some, nat_le, not, ⊤}
 use Rattle.std.proofs.lemmas.Bool.{cases_lt, or_parts}
 use Rattle.std.proofs.lemmas.List.{get_or_append_left, get_or_past}
 use Rattle.std.proofs.Math.Seq.{get_or-append_seam}
-use Rattle.cdk_base.specs.declared.code.Code.{Code}
 use Rattle.cdk_base.specs.declared.code.Code.TheVariants.{BadId, SameId, BadPlace}
 use Rattle.cdk_elements.specs.Elements.{name_around}
 use Rattle.cdk_elements.specs.Kinds.{stacks_of}
 use Rattle.cdk_language.specs.Construct as language
 use Rattle.cdk_language.specs.Construct.{Application, Body, Construct, Constructs, Head}
-use Rattle.cdk_language.specs.declared.finding.Finding.{Finding}
 use Rattle.cdk_meaning.specs.Names.{Each, IsIn}
 use Rattle.cdk_tree.proofs.Findings.{findings_from-append}
 use Rattle.cdk_tree.specs.PlaceFindings.{findings_from, found_at, has_taken_id, is_element, is_id, is_misplaced, place_findings, when, wrong_at}
@@ -125,9 +123,10 @@ module _ (cs : List Placed) where
     walk_stands : (n m : ℕ) (p : Placed) (x : Construct) (before after : List Placed) → length before ≡ n → IsScope before m p → IsRest before (walk n m p x ++ after) → Each StandsWell (walk n m p x)
     walk_stands n m p (language.construct h b xs) before after at scope r =
         let c = placed_in n m p h b in
-        let more = walk_children (n + 1) n c xs ++ after in
-        (here before n m p h b more at scope r,
-        children_stand (n + 1) n c xs (before ++ c ∷ []) after (next_at before n m p h b more at scope r) (next_scope before n m p h b more at scope r) (next_rest before n m p h b more at scope r))
+        let more = walk_children (n + 1) n c xs ++ after in (
+          here before n m p h b more at scope r,
+          children_stand (n + 1) n c xs (before ++ c ∷ []) after (next_at before n m p h b more at scope r) (next_scope before n m p h b more at scope r) (next_rest before n m p h b more at scope r),
+        )
 
     children_stand : (n m : ℕ) (p : Placed) (xs : Constructs) (before after : List Placed) → length before ≡ n → IsScope before m p → IsRest before (walk_children n m p xs ++ after) → Each StandsWell (walk_children n m p xs)
     children_stand n m p language.no_constructs before after at scope r = tt

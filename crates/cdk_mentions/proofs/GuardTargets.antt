@@ -1,5 +1,5 @@
 -- The condition under which a resource or output is made is found, and is one of the stack's.
-use Rattle.std.proofs.Common.{◌≡◌, ◌<◌, ℕ, List, [], length, false, Option, Some, None, refl, ap, subst, sym}
+use Rattle.std.proofs.Common.{ℕ, List, false, Option, Some, None, refl, ap, subst, sym}
 use Rattle.std.specs.Prelude.{is_some}
 use Rattle.cdk_elements.specs.Elements.{parts_of}
 use Rattle.cdk_language.specs.Construct as language

@@ -1,18 +1,16 @@
 -- The laws at a small application: a stack with a parameter, a mapping, two conditions, of which one names the other, two resources,
 -- of which one is made under a condition and the other mentions all of these, an output and a lazy.
-use Rattle.std.proofs.Common.{◌≡◌, ◌<◌, ◌≤◌, ℕ, List, [], ◌∷◌, codes, length, true, false, Some, None, refl, arith, inl, inr}
-use Rattle.std.specs.Prelude.{option_and_then}
+use Rattle.std.proofs.Common.{◌≡◌, ℕ, List, [], ◌∷◌, codes, length, false, Some, None, refl, arith, inl}
 use Rattle.std.specs.Fmt.{digits}
 use Rattle.std.specs.Str.{is_utf8, chars}
 use Rattle.serde_json.proofs.OnLiterals.{serde_json_on_literals}
 use Rattle.serde_json.specs.Data.{Data, string, array, object, Items, no_items, item, Members, no_members, member}
 use Rattle.cdk_base.specs.Json.{parsed}
 use Rattle.cdk_clean.proofs.CleanTrees.{trees_are_clean}
-use Rattle.cdk_elements.specs.Elements.{constructs_in, logical_of, name_of, own_homes, parts_of}
+use Rattle.cdk_elements.specs.Elements.{constructs_in, logical_of, own_homes, parts_of}
 use Rattle.cdk_elements.specs.Kinds.{stacks_of}
 use Rattle.cdk_elements.specs.OneStack.{AreOneStack}
 use Rattle.cdk_expansion.specs.Laws.{IsSound}
-use Rattle.cdk_expansion.specs.Own.{own_of}
 use Rattle.cdk_graphs.specs.Loops.{LoopsAreFound}
 use Rattle.cdk_language.specs.Application.{application_of}
 use Rattle.cdk_language.specs.Condition as condition
@@ -25,16 +23,13 @@ use Rattle.cdk_language.specs.declared.construct.ParameterForm.TheVariants as fo
 use Rattle.cdk_lazies.specs.CycleFindings.{cycle_findings}
 use Rattle.cdk_meaning.specs.AssemblyKept.{MentionIsThere}
 use Rattle.cdk_meaning.specs.Constructs.{condition_at}
-use Rattle.cdk_meaning.specs.Mentions.{Mention, mentions, names_in, operand_mentions, to_attribute, to_condition, to_mapping, to_target}
+use Rattle.cdk_meaning.specs.Mentions.{Mention, to_attribute, to_condition, to_mapping, to_target}
 use Rattle.cdk_meaning.specs.Names.{Each, IsIn}
 use Rattle.cdk_meaning.specs.Source.{Source}
-use Rattle.cdk_meaning.specs.StackTemplate.{IsOperandMention, Parts}
+use Rattle.cdk_meaning.specs.StackTemplate.{IsOperandMention}
 use Rattle.cdk_meaning.specs.Truth.{reaches}
 use Rattle.cdk_plain.specs.Rendered.{Local}
-use Rattle.cdk_tokens.specs.Contexts.{context_findings}
 use Rattle.cdk_tokens.specs.Whole.{marking, tokens_of}
-use Rattle.cdk_tree.specs.Expected.{target_findings}
-use Rattle.cdk_tree.specs.PlaceFindings.{place_findings}
 use Rattle.cdk_tree.specs.Placed.{Placed, construct_at, constructs_of}
 use Rattle.cdk_mentions.specs.Laws.{IsGuarded}
 use Rattle.cdk_mentions.specs.OneTree.{IsOneTree}

@@ -1,15 +1,13 @@
 -- The operands of a stack's conditions mention its parameters and mappings alone: what may stand in them names no resource, and what
 -- else is named there is no form of an operand.
-use Rattle.std.proofs.Common.{◌≡◌, ◌<◌, ℕ, zero, suc, ◌+◌, List, [], ◌∷◌, ◌++◌, length, slice_get, Bool, true, false, Option, Some, None, refl, sym, ap, ◌∙◌}
+use Rattle.std.proofs.Common.{◌≡◌, ◌<◌, ℕ, zero, suc, ◌+◌, List, [], ◌∷◌, length, slice_get, Bool, true, false, refl}
 use Rattle.std.specs.Prelude.{◌||◌}
 use Rattle.std.specs.Option.{option_map_or}
 use Rattle.cdk_elements.specs.Elements.{constructs_in, element_of, own_homes, own_operand, own_value, parts_of}
 use Rattle.cdk_expansion.specs.Conditions.{condition_plain, conditions_plain}
-use Rattle.cdk_expansion.specs.Own.{own_opened, operands_in}
+use Rattle.cdk_expansion.specs.Own.{own_opened}
 use Rattle.cdk_language.specs.Condition as condition
 use Rattle.cdk_language.specs.Condition.{Condition, Conditions}
-use Rattle.cdk_language.specs.Construct as language
-use Rattle.cdk_language.specs.Construct.{Body}
 use Rattle.cdk_language.specs.Expression as expression
 use Rattle.cdk_language.specs.Expression.{Expression, Expressions, Fields}
 use Rattle.cdk_meaning.proofs.NameLists.{each_back, each_front}
@@ -108,9 +106,10 @@ module _ (cs : List Placed) (stack : ℕ) (tree : IsOneTree cs stack) where
 
     piece_operand_names : (es : Expressions) → ArePlainOperands es → AreMet (expected_pieces es) → AllName P lazies cs es
     piece_operand_names expression.no_expressions p h = tt
-    piece_operand_names (expression.expression e es) p h =
-        (operand_names e p.0 (each_front (IsMetAt cs true) (asked.text_place e ∷ expected e) (expected_pieces es) h).1,
-        piece_operand_names es p.1 (each_back (IsMetAt cs true) (asked.text_place e ∷ expected e) (expected_pieces es) h))
+    piece_operand_names (expression.expression e es) p h = (
+      operand_names e p.0 (each_front (IsMetAt cs true) (asked.text_place e ∷ expected e) (expected_pieces es) h).1,
+      piece_operand_names es p.1 (each_back (IsMetAt cs true) (asked.text_place e ∷ expected e) (expected_pieces es) h),
+    )
 
   -- ---- the operands of a condition, numbered
 

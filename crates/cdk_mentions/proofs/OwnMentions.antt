@@ -1,5 +1,5 @@
 -- What the own plain form of an expression mentions: what its references name, and what its lazies mention.
-use Rattle.std.proofs.Common.{◌≡◌, ℕ, List, [], ◌∷◌, ◌++◌, Bool, true, false, nat_cmp, Option, Some, None}
+use Rattle.std.proofs.Common.{ℕ, List, [], ◌∷◌, Bool, true, false, nat_cmp, Option, Some, None}
 use Rattle.std.specs.Prelude.{ℤ, ⊤}
 use Rattle.std.specs.Cmp.Lexicographic.{slice_cmp}
 use Rattle.std.specs.Ordering.{match_ordering}
@@ -14,7 +14,6 @@ use Rattle.cdk_language.specs.Expression.{Expression, Expressions}
 use Rattle.cdk_meaning.proofs.NameLists.{each_back, each_front}
 use Rattle.cdk_meaning.specs.Mentions.{Mention, all_mentions, field_mentions, mentions, to_attribute, to_condition, to_import, to_mapping, to_target}
 use Rattle.cdk_meaning.specs.Names.{Each}
-use Rattle.cdk_plain.specs.Plain as plain
 use Rattle.cdk_plain.specs.Plain.{Fields, Plain, no_fields, field}
 use Rattle.cdk_tokens.specs.Marking.{context_value, target}
 use Rattle.cdk_tree.specs.Lists.{is_list}

@@ -1,5 +1,5 @@
 -- What reading gives: a root that is nothing but the root, and, where nothing is found, plain operands in the whole tree.
-use Rattle.std.proofs.Common.{◌≡◌, ℕ, ◌+◌, List, [], ◌∷◌, ◌++◌, length, Option, Some, refl, subst, option_map, option_and_then}
+use Rattle.std.proofs.Common.{ℕ, ◌+◌, List, [], length, refl, subst, option_map}
 use Rattle.serde_json.specs.Data.{Data, Members, object}
 use Rattle.cdk_base.specs.declared.Setting.{Setting}
 use Rattle.cdk_base.proofs.Parsed.{read_parsed}

@@ -1,6 +1,5 @@
 -- What a construct of a kind has: only a condition has operands, and theirs are plain where nothing is found in its members.
-use Rattle.std.proofs.Common.{◌≡◌, ℕ, List, Bool, true, false, codes, Option, Some, None, option_map, option_and_then, refl, ap, ◌∙◌, subst}
-use Rattle.std.specs.Prelude.{unwrap_or, ⊤}
+use Rattle.std.proofs.Common.{◌≡◌, ℕ, List, true, codes, Some, None, option_map, option_and_then, refl, ap, ◌∙◌, subst}
 use Rattle.std.specs.Str.{bytes_eq}
 use Rattle.serde_json.specs.Data.{Members}
 use Rattle.serde_json.specs.Find.{as_object, get_member}

@@ -1,12 +1,12 @@
 -- An expression that is read in an operand of a condition, in a place where nothing is found, has only forms that an operand may have.
-use Rattle.std.proofs.Common.{◌≡◌, ℕ, ◌+◌, [], Bool, true, false, cond, codes, None, option_map, option_and_then}
+use Rattle.std.proofs.Common.{◌≡◌, ℕ, ◌+◌, Bool, true, false, cond, codes, None, option_map, option_and_then}
 use Rattle.std.specs.Str.{bytes_eq}
 use Rattle.serde_json.specs.Data.{Data, null, boolean, number, string, array, object, Items, no_items, item, Members, no_members, member}
 use Rattle.serde_json.specs.Find.{as_integer, as_number, as_str, as_u64}
 use Rattle.cdk_base.specs.Marker.{has_marker}
 use Rattle.cdk_clean.proofs.CleanForms.{Place, anywhere, form_at, list_place, piece, role_of, text_place, told}
 use Rattle.cdk_clean.proofs.CleanPlaces.{ItemsStand, MembersStand, StandsAt, first_stands, is_right, items_in, member_stands, members_in, members_stand, nothing_there, rest_stand, second_stands, third_stands}
-use Rattle.cdk_language.specs.Application.{concat_of, expression_of, expressions_of, fields_of, find_in_map_of, form_of, join_of, ref_of, select_of, split_of, sub_of, substituted_of}
+use Rattle.cdk_language.specs.Application.{concat_of, expression_of, expressions_of, fields_of, find_in_map_of, form_of, join_of, select_of, split_of, substituted_of}
 use Rattle.cdk_language.specs.Expression as expression
 use Rattle.cdk_language.specs.Expression.{Expression, Expressions, Fields}
 use Rattle.cdk_language.specs.Schema.{is_form}
@@ -16,7 +16,7 @@ use Rattle.cdk_language.specs.declared.schema.Role.TheVariants as roles
 use Rattle.cdk_language.specs.declared.schema.Within.TheVariants as within
 use Rattle.cdk_written.proofs.ReadExpressions.{All, made, made_then, mapped, then}
 use Rattle.cdk_mentions.specs.Operands.{ArePlainOperands, FieldsArePlainOperands, IsPlainOperand}
-use Rattle.cdk_mentions.proofs.PlainForms.{IsAllowed, is_allowed, never, plain_array, plain_context, plain_object, plain_refs, plain_sub, with_variables}
+use Rattle.cdk_mentions.proofs.PlainForms.{is_allowed, never, plain_array, plain_context, plain_object, plain_refs, plain_sub, with_variables}
 
 variable_role : {A : Type 0} (b marked : Bool) (d : Data) → (StandsAt marked (roles.TextPlace within.Condition) d → A) → StandsAt marked (cond b (roles.TextPlace within.Condition) roles.Nothing) d → A
 variable_role true marked d f h = f h

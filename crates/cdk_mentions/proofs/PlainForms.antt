@@ -1,6 +1,6 @@
 -- What is read of an operand's forms has only forms that an operand may have, where what stands in them has.
 use Rattle.std.proofs.Common.{◌≡◌, ℕ, List, [], ◌∷◌, not, Bool, true, false, true≢false, cond, codes, Option, Some, None, option_map, option_and_then, refl, sym, ap, ◌∙◌, subst}
-use Rattle.std.specs.Prelude.{◌&&◌, ◌||◌, unwrap_or, ⊤}
+use Rattle.std.specs.Prelude.{◌&&◌, ◌||◌, unwrap_or}
 use Rattle.std.specs.List.{list_any}
 use Rattle.std.specs.Str.{bytes_eq}
 use Rattle.std.proofs.lemmas.Bool.{not-false, or_parts}
@@ -18,12 +18,11 @@ use Rattle.cdk_language.specs.Sub.{Piece, pieces_of}
 use Rattle.cdk_language.specs.declared.expression.Pseudo.{Pseudo}
 use Rattle.cdk_language.specs.declared.expression.Pseudo.TheVariants as pseudos
 use Rattle.cdk_language.specs.declared.schema.Frame.TheVariants as frames
-use Rattle.cdk_language.specs.declared.schema.Role.{Role}
 use Rattle.cdk_language.specs.declared.schema.Role.TheVariants as roles
 use Rattle.cdk_language.specs.declared.schema.Within.TheVariants as within
 use Rattle.cdk_meaning.specs.Names.{Each}
 use Rattle.cdk_tree.proofs.Tests.{and_left, and_right}
-use Rattle.cdk_written.proofs.ReadExpressions.{All, made, made_then, mapped, then}
+use Rattle.cdk_written.proofs.ReadExpressions.{All, made, mapped, then}
 use Rattle.cdk_mentions.specs.Operands.{ArePlainOperands, FieldsArePlainOperands, IsPlainOperand, IsValued}
 
 -- ---- keys of forms

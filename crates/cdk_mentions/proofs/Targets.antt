@@ -1,6 +1,6 @@
 -- The targets that a construct asks for are found, and serve: no finding tells otherwise. So they are among the stack's constructs.
-use Rattle.std.proofs.Common.{◌≡◌, ◌<◌, ◌≤◌, ℕ, List, [], ◌∷◌, ◌++◌, map, length, Bool, true, false, true≢false, Option, Some, None, refl, sym, ap, ◌∙◌, unwrap_or, arith, inl, inr}
-use Rattle.std.specs.Prelude.{◌⊎◌, ◌||◌, ◌&&◌, ◌==◌, is_none, not, ⊤}
+use Rattle.std.proofs.Common.{◌≡◌, ◌<◌, ℕ, List, [], ◌∷◌, map, length, Bool, true, false, true≢false, Option, Some, None, refl, sym, ap, ◌∙◌, unwrap_or, inl, inr}
+use Rattle.std.specs.Prelude.{◌||◌, ◌&&◌, is_none, not, ⊤}
 use Rattle.std.specs.List.{list_any}
 use Rattle.std.specs.Option.{option_map_or}
 use Rattle.std.proofs.lemmas.Bool.{cases_lt, eq-eqb, not-false, or_parts}

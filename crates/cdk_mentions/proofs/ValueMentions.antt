@@ -1,6 +1,6 @@
 -- What the value of a resource, an output or a lazy mentions is there, however often lazies are opened.
-use Rattle.std.proofs.Common.{◌≡◌, ◌<◌, ◌≤◌, ℕ, zero, suc, List, [], ◌∷◌, ◌++◌, length, Bool, true, false, true≢false, Option, Some, None, refl, sym, ap, ◌∙◌, subst, arith, inl, inr}
-use Rattle.std.specs.Prelude.{◌⊎◌, ◌||◌, unwrap_or}
+use Rattle.std.proofs.Common.{◌≡◌, ℕ, zero, suc, List, [], ◌∷◌, ◌++◌, length, Bool, true, false, Option, Some, None, refl, sym, ap, subst, inl, inr}
+use Rattle.std.specs.Prelude.{◌||◌}
 use Rattle.std.specs.Option.{option_map_or}
 use Rattle.std.proofs.lemmas.Bool.{cases_lt}
 use Rattle.std.proofs.lemmas.List.{get_or_past}
@@ -23,11 +23,10 @@ use Rattle.cdk_tokens.specs.Marking.{target}
 use Rattle.cdk_tree.specs.Expected as asked
 use Rattle.cdk_tree.specs.Expected.{Expected, expected, expected_all, expected_body, expected_fields, expected_pieces, expected_when, is_condition, is_parameter, is_resource}
 use Rattle.cdk_tree.specs.Placed.{Placed, construct_at, nowhere}
-use Rattle.cdk_tree.specs.declared.role.TargetRole.TheVariants as roles
 use Rattle.cdk_mentions.specs.Laws.{ValuesMentionTheirs}
 use Rattle.cdk_mentions.specs.OneTree.{IsOneTree}
 use Rattle.cdk_mentions.proofs.OwnMentions.{AllName, FieldsName, MentionsAre, Names, own_mentions}
-use Rattle.cdk_mentions.proofs.Targets.{BodyIsMet, IsMet, IsMetAt, body_is_met, condition_there, mapping_there, parameter_there, resource_there}
+use Rattle.cdk_mentions.proofs.Targets.{BodyIsMet, IsMetAt, body_is_met, condition_there, mapping_there, parameter_there, resource_there}
 
 in_front : {A : Type 0} (a : A) (xs ys : List A) → IsIn a xs → IsIn a (xs ++ ys)
 in_front a [] ys i = absurd i
@@ -89,9 +88,10 @@ module _ (cs : List Placed) (stack : ℕ) (tree : IsOneTree cs stack) (most : �
 
       pieces_there : (es : Expressions) → AreMet (expected_pieces es) → AllName P lazies cs es
       pieces_there expression.no_expressions h = tt
-      pieces_there (expression.expression e es) h =
-          (names_there e (each_front (IsMetAt cs in_condition) (asked.text_place e ∷ expected e) (expected_pieces es) h).1,
-          pieces_there es (each_back (IsMetAt cs in_condition) (asked.text_place e ∷ expected e) (expected_pieces es) h))
+      pieces_there (expression.expression e es) h = (
+        names_there e (each_front (IsMetAt cs in_condition) (asked.text_place e ∷ expected e) (expected_pieces es) h).1,
+        pieces_there es (each_back (IsMetAt cs in_condition) (asked.text_place e ∷ expected e) (expected_pieces es) h),
+      )
 
   -- ---- the value of a construct
 

@@ -1,6 +1,6 @@
 -- In a tree of one stack, with its own spellings and the sections of its own template, what an expression's plain form mentions is
 -- there (own; what a template may mention is CloudFormation's).
-use Rattle.std.specs.Prelude.{◌≡◌, ◌<◌, ℕ, List, [], length, Bool, true, false, Option, Some, None, is_some, option_and_then}
+use Rattle.std.specs.Prelude.{◌≡◌, ◌<◌, ℕ, List, [], length, true, false, Option, Some, None, is_some, option_and_then}
 use Rattle.serde_json.specs.Data.{Data}
 use Rattle.cdk_base.specs.Json.{parsed}
 use Rattle.cdk_base.specs.declared.Setting.{Setting}

@@ -1,4 +1,4 @@
-// What the crates above may rely on: each function stands for the law in its contract, and does nothing.
+// What the crates above may rely on: each function stands for the law in its contract, and does nothing but cite another law.
 ghost use Rattle.cdk_mentions.specs.Laws.{ApplicationsAreRooted, ConditionsAreClosed, ConditionsAreFree, ElementsStandInTheStack, GuardsAreConditions, OperandsAreReadPlain, OperandsMentionTheirs, ValuesMentionTheirs};
 
 use cdk_graphs::loops_are_found;

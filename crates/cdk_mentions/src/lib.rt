@@ -3,4 +3,8 @@
 
 mod laws;
 
-pub use laws::{applications_are_rooted, conditions_are_closed, conditions_are_free, elements_stand_in_the_stack, guards_are_conditions, operands_are_read_plain, operands_mention_theirs, values_mention_theirs};
+pub use laws::{
+    applications_are_rooted, conditions_are_closed, conditions_are_free,
+    elements_stand_in_the_stack, guards_are_conditions, operands_are_read_plain,
+    operands_mention_theirs, values_mention_theirs,
+};
