@@ -1,0 +1,4 @@
+pub mod Putting
+pub mod Alike
+pub mod LocalRenders
+mod Instance
