@@ -1,1 +1,2 @@
 pub mod CleanTrees
+pub mod MarkedTrees

@@ -1,4 +1,5 @@
 // Single calls: what no command reaches yet, and readers and writers that move few bytes at a time.
+use crate::chains::try_chains;
 use crate::look_ups::try_look_ups;
 use crate::markers::try_markers;
 use crate::names::try_names;
@@ -14,6 +15,7 @@ pub fn try_calls(alloc: Global, tally: &mut Tally) -> Result<(), Trouble> {
     try_markers(alloc, tally)?;
     try_settings(alloc, tally)?;
     try_look_ups(alloc, tally)?;
+    try_chains(alloc, tally)?;
     try_outside(alloc, tally)?;
     try_streams(alloc, tally)?;
     tally.end("calls")?;

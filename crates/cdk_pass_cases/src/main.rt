@@ -3,6 +3,8 @@
 #![tactic(auto)]
 
 mod calls;
+mod chains;
+mod checking;
 mod documents;
 mod faults;
 mod lazies;
@@ -11,8 +13,10 @@ mod markers;
 mod names;
 mod outside;
 mod passes;
+mod rendering;
 mod settings;
 mod sizes;
+mod spellings;
 mod streams;
 mod targets;
 mod tokens;
@@ -20,6 +24,7 @@ mod tokens;
 use crate::calls::try_calls;
 use crate::documents::Documents;
 use crate::passes::Pass;
+use crate::rendering::Rendering;
 use cdk_outside::{DiskFiles, Files, StdSink};
 use cdk_tally::{Tally, Trouble, print, try_group};
 use std::alloc::Global;
@@ -29,6 +34,9 @@ fn try_groups<F: Files>(alloc: Global, source: &mut F, tally: &mut Tally) -> Res
     try_group(alloc, source, &Documents, tally)?;
     for pass in [Pass::Targets, Pass::Marking, Pass::Ordering, Pass::Sizing] {
         try_group(alloc, source, &pass, tally)?;
+    }
+    for rendering in [Rendering::Json, Rendering::Results] {
+        try_group(alloc, source, &rendering, tally)?;
     }
     try_calls(alloc, tally)
 }
