@@ -4,94 +4,96 @@ use Rattle.std.specs.Fmt.{digits}
 use Rattle.serde_json.specs.Read.{read}
 use Rattle.serde_json.proofs.OnLiterals.{serde_json_on_literals}
 use Rattle.cdk_language.specs.Application.{application_of}
-use Rattle.cdk_carried.specs.Carried.{is_carried, depth, size}
+use Rattle.cdk_carried.specs.Carried.{is_carried}
 
 abbrev carried : List ℕ → Option Bool
 carried document = option_map is_carried (option_and_then application_of (read document))
 
-one_stack : carried (codes "{\"app\":\"1\",\"children\":[{\"kind\":\"group\",\"id\":\"G\",\"children\":[{\"kind\":\"stack\",\"id\":\"S\",\"description\":\"d\",\"children\":[{\"kind\":\"group\",\"id\":\"H\",\"children\":[{\"kind\":\"resource\",\"id\":\"R\",\"type\":\"Own::T\",\"logicalId\":\"Kept\",\"deletionPolicy\":\"Retain\",\"properties\":{\"P\":[true,\"x\",{\"k\":1}]}}]}]}]}]}") ≡ Some true
-unfolding serde_json_on_literals digits
-one_stack = refl
+-- an application whose children these are
+abbrev with_children : List ℕ → List ℕ
+with_children children = codes "{\"app\":\"1\",\"children\":[" ++ children ++ codes "]}"
 
-no_stack : carried (codes "{\"app\":\"1\",\"children\":[]}") ≡ Some true
+-- an application of one stack, whose children these are
+abbrev in_stack : List ℕ → List ℕ
+in_stack children = with_children (codes "{\"kind\":\"stack\",\"id\":\"S\",\"children\":[" ++ children ++ codes "]}")
+
+no_stack : carried (with_children (codes "")) ≡ Some true
 unfolding serde_json_on_literals digits
 no_stack = refl
 
-two_stacks : carried (codes "{\"app\":\"1\",\"children\":[{\"kind\":\"stack\",\"id\":\"S\"},{\"kind\":\"group\",\"id\":\"G\",\"children\":[{\"kind\":\"stack\",\"id\":\"T\"}]}]}") ≡ Some false
+one_stack : carried (with_children (codes "{\"kind\":\"group\",\"id\":\"G\",\"children\":[{\"kind\":\"stack\",\"id\":\"S\",\"description\":\"d\",\"children\":[{\"kind\":\"group\",\"id\":\"H\",\"children\":[{\"kind\":\"resource\",\"id\":\"R\",\"type\":\"Own::T\",\"logicalId\":\"Kept\",\"deletionPolicy\":\"Retain\",\"properties\":{\"P\":[true,\"x\",{\"k\":1}]}}]}]}]}")) ≡ Some true
+unfolding serde_json_on_literals digits
+one_stack = refl
+
+two_stacks : carried (with_children (codes "{\"kind\":\"stack\",\"id\":\"S\"},{\"kind\":\"group\",\"id\":\"G\",\"children\":[{\"kind\":\"stack\",\"id\":\"T\"}]}")) ≡ Some false
 unfolding serde_json_on_literals digits
 two_stacks = refl
 
-stage : carried (codes "{\"app\":\"1\",\"children\":[{\"kind\":\"stage\",\"id\":\"S\"}]}") ≡ Some false
+stage : carried (with_children (codes "{\"kind\":\"stage\",\"id\":\"S\"}")) ≡ Some false
 unfolding serde_json_on_literals digits
 stage = refl
 
-context_of_the_root : carried (codes "{\"app\":\"1\",\"context\":{\"k\":1},\"children\":[]}") ≡ Some false
+stage_of_a_group : carried (with_children (codes "{\"kind\":\"group\",\"id\":\"G\",\"children\":[{\"kind\":\"stage\",\"id\":\"S\"}]}")) ≡ Some false
 unfolding serde_json_on_literals digits
-context_of_the_root = refl
+stage_of_a_group = refl
 
-context_of_a_group : carried (codes "{\"app\":\"1\",\"children\":[{\"kind\":\"group\",\"id\":\"G\",\"context\":{\"k\":1}}]}") ≡ Some false
+contexts : carried (codes "{\"app\":\"1\",\"context\":{\"k\":1},\"children\":[{\"kind\":\"group\",\"id\":\"G\",\"context\":{\"k\":[2]}}]}") ≡ Some true
 unfolding serde_json_on_literals digits
-context_of_a_group = refl
-
-empty_context : carried (codes "{\"app\":\"1\",\"context\":{},\"aspects\":[],\"children\":[{\"kind\":\"group\",\"id\":\"G\",\"dependsOn\":[]}]}") ≡ Some true
-unfolding serde_json_on_literals digits
-empty_context = refl
+contexts = refl
 
 aspect : carried (codes "{\"app\":\"1\",\"aspects\":[{\"name\":\"n\",\"with\":1}],\"children\":[]}") ≡ Some false
 unfolding serde_json_on_literals digits
 aspect = refl
 
-depends : carried (codes "{\"app\":\"1\",\"children\":[{\"kind\":\"group\",\"id\":\"G\",\"dependsOn\":[\"H\"]}]}") ≡ Some false
+aspect_of_a_resource : carried (in_stack (codes "{\"kind\":\"resource\",\"id\":\"R\",\"type\":\"Own::T\",\"aspects\":[{\"name\":\"n\",\"with\":1}]}")) ≡ Some false
+unfolding serde_json_on_literals digits
+aspect_of_a_resource = refl
+
+depends : carried (with_children (codes "{\"kind\":\"group\",\"id\":\"G\",\"dependsOn\":[\"H\"]}")) ≡ Some false
 unfolding serde_json_on_literals digits
 depends = refl
 
-condition : carried (codes "{\"app\":\"1\",\"children\":[{\"kind\":\"stack\",\"id\":\"S\",\"children\":[{\"kind\":\"condition\",\"id\":\"C\",\"expression\":{\"Condition\":\"D\"}}]}]}") ≡ Some false
+empty_heads : carried (codes "{\"app\":\"1\",\"context\":{},\"aspects\":[],\"children\":[{\"kind\":\"group\",\"id\":\"G\",\"dependsOn\":[]}]}") ≡ Some true
 unfolding serde_json_on_literals digits
-condition = refl
+empty_heads = refl
 
-condition_of_a_resource : carried (codes "{\"app\":\"1\",\"children\":[{\"kind\":\"stack\",\"id\":\"S\",\"children\":[{\"kind\":\"resource\",\"id\":\"R\",\"type\":\"Own::T\",\"condition\":\"C\"}]}]}") ≡ Some false
-unfolding serde_json_on_literals digits
-condition_of_a_resource = refl
-
-lazy : carried (codes "{\"app\":\"1\",\"children\":[{\"kind\":\"lazy\",\"id\":\"L\",\"value\":1}]}") ≡ Some false
-unfolding serde_json_on_literals digits
-lazy = refl
-
-parameter : carried (codes "{\"app\":\"1\",\"children\":[{\"kind\":\"stack\",\"id\":\"S\",\"children\":[{\"kind\":\"parameter\",\"id\":\"P\",\"type\":\"String\"}]}]}") ≡ Some false
+parameter : carried (in_stack (codes "{\"kind\":\"parameter\",\"id\":\"P\",\"type\":\"String\",\"default\":\"d\"}")) ≡ Some true
 unfolding serde_json_on_literals digits
 parameter = refl
 
--- an application with one resource of the properties
-abbrev with_properties : List ℕ → List ℕ
-with_properties properties = codes "{\"app\":\"1\",\"children\":[{\"kind\":\"stack\",\"id\":\"S\",\"children\":[{\"kind\":\"resource\",\"id\":\"R\",\"type\":\"Own::T\",\"properties\":" ++ properties ++ codes "}]}]}"
-
-reference : carried (with_properties (codes "{\"P\":[{\"Ref\":\"AWS::Region\"}]}")) ≡ Some false
+mapping : carried (in_stack (codes "{\"kind\":\"mapping\",\"id\":\"M\",\"mappings\":{\"a\":{\"b\":1}}}")) ≡ Some true
 unfolding serde_json_on_literals digits
-reference = refl
+mapping = refl
 
--- 31 arrays are within 32 levels
-arrays_31 : carried (with_properties (codes "{\"P\":[[[[[[[[[[[[[[[[[[[[[[[[[[[[[[[]]]]]]]]]]]]]]]]]]]]]]]]]]]]]]]}")) ≡ Some true
+condition : carried (in_stack (codes "{\"kind\":\"condition\",\"id\":\"C\",\"expression\":{\"Fn::Equals\":[{\"Ref\":\"S/P\"},\"x\"]}}")) ≡ Some true
 unfolding serde_json_on_literals digits
-arrays_31 = refl
+condition = refl
 
-depth_of_arrays_31 : option_map depth (option_and_then application_of (read (with_properties (codes "{\"P\":[[[[[[[[[[[[[[[[[[[[[[[[[[[[[[[]]]]]]]]]]]]]]]]]]]]]]]]]]]]]]]}")))) ≡ Some 32
+condition_of_a_resource : carried (in_stack (codes "{\"kind\":\"resource\",\"id\":\"R\",\"type\":\"Own::T\",\"condition\":\"S/C\"}")) ≡ Some true
 unfolding serde_json_on_literals digits
-depth_of_arrays_31 = refl
+condition_of_a_resource = refl
 
--- 32 aren't
-arrays_32 : carried (with_properties (codes "{\"P\":[[[[[[[[[[[[[[[[[[[[[[[[[[[[[[[[]]]]]]]]]]]]]]]]]]]]]]]]]]]]]]]]}")) ≡ Some false
+lazy : carried (with_children (codes "{\"kind\":\"lazy\",\"id\":\"L\",\"value\":{\"CDK::Lazy\":\"L\"}}")) ≡ Some true
 unfolding serde_json_on_literals digits
-arrays_32 = refl
+lazy = refl
 
--- the object 16, the key 3, the array 16, the text 18, the numbers 16 each
-sizes : option_map size (option_and_then application_of (read (with_properties (codes "{\"Key\":[\"ab\",1,-1]}")))) ≡ Some 85
+output : carried (in_stack (codes "{\"kind\":\"output\",\"id\":\"O\",\"value\":{\"Ref\":\"S/R\"},\"description\":\"d\",\"condition\":\"S/C\"}")) ≡ Some true
 unfolding serde_json_on_literals digits
-sizes = refl
+output = refl
 
-size_of_no_properties : option_map size (option_and_then application_of (read (with_properties (codes "{}")))) ≡ Some 16
+exported_output : carried (in_stack (codes "{\"kind\":\"output\",\"id\":\"O\",\"value\":\"v\",\"exportName\":\"e\"}")) ≡ Some false
 unfolding serde_json_on_literals digits
-size_of_no_properties = refl
+exported_output = refl
 
-size_of_an_empty_application : option_map size (option_and_then application_of (read (codes "{\"app\":\"1\",\"children\":[]}"))) ≡ Some 0
+exported_output_of_a_group : carried (in_stack (codes "{\"kind\":\"group\",\"id\":\"G\",\"children\":[{\"kind\":\"output\",\"id\":\"O\",\"value\":\"v\",\"exportName\":\"e\"}]}")) ≡ Some false
 unfolding serde_json_on_literals digits
-size_of_an_empty_application = refl
+exported_output_of_a_group = refl
+
+expressions : carried (in_stack (codes "{\"kind\":\"resource\",\"id\":\"R\",\"type\":\"Own::T\",\"properties\":{\"A\":{\"Fn::Join\":[\",\",{\"Fn::Split\":[\"-\",{\"Ref\":\"S/P\"}]}]},\"B\":{\"Fn::If\":[\"S/C\",{\"Fn::GetAtt\":[\"S/Q\",\"Arn\"]},{\"Fn::ImportValue\":\"e\"}]},\"C\":{\"CDK::Concat\":[\"a\",{\"CDK::Context\":[\"k\",\"d\"]},{\"CDK::Lazy\":\"L\"}]},\"D\":{\"Fn::Select\":[0,[{\"Ref\":\"AWS::Region\"}]]}}}")) ≡ Some true
+unfolding serde_json_on_literals digits
+expressions = refl
+
+-- no depth is refused here
+deep : carried (in_stack (codes "{\"kind\":\"resource\",\"id\":\"R\",\"type\":\"Own::T\",\"properties\":{\"P\":[[[[[[[[[[[[[[[[[[[[[[[[[[[[[[[[[[[[[[[[]]]]]]]]]]]]]]]]]]]]]]]]]]]]]]]]]]]]]]]]}}")) ≡ Some true
+unfolding serde_json_on_literals digits
+deep = refl

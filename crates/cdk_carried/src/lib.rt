@@ -1,9 +1,8 @@
-//! The applications that are carried so far: one stack of literals in any groups.
+//! The applications that are carried so far: one stack in any groups, and within it the language but for export names.
 #![tactic(auto)]
 
 mod carried;
-mod depths;
 mod parts;
-mod sizes;
+mod stacks;
 
 pub use carried::is_carried;

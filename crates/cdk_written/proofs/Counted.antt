@@ -2,10 +2,10 @@
 use Rattle.std.proofs.Common.{◌≡◌, ◌<◌, ℕ, zero, suc, ◌+◌, List, [], ◌∷◌, ◌++◌, length, filter, Bool, true, false, cond, refl, sym, ap, ◌∙◌, arith, add-zero}
 use Rattle.std.specs.List.{range_with_len}
 use Rattle.cdk_carried.specs.Carried.{body_stacks, stacks, stacks_among}
+use Rattle.cdk_elements.specs.Kinds.{stacks_of}
 use Rattle.cdk_language.specs.Construct as language
 use Rattle.cdk_language.specs.Construct.{Application, Body, Construct, Constructs}
 use Rattle.cdk_tree.specs.Placed.{Placed, construct_at, constructs_of, is_stack, placed_in, root_placed, walk, walk_children}
-use Rattle.cdk_written.specs.Placed.{stacks_of}
 
 abbrev stack_count : List Placed → ℕ
 stack_count [] = 0

@@ -1,7 +1,7 @@
 use Rattle.std.proofs.Common.{◌≡◌, ◌≤◌, ◌+◌, ◌-◌, ◌^◌, min, drop}
 use Rattle.cdk_language.specs.Construct.{nodes_view}
 use Rattle.cdk_carried.specs.Carried.{stacks_among}
-use Rattle.cdk_carried.proofs.sizes.+stacks.Given as goal
+use Rattle.cdk_carried.proofs.stacks.+stacks.Given as goal
 
 abbrev pub invariant-stacks_among-loop-node : goal.invariant-stacks_among-loop-node
 invariant-stacks_among-loop-node l =
