@@ -1,11 +1,12 @@
--- The stacks of an application that is carried so far: all stand in the root assembly, and no other artifacts do.
+-- The stacks of an application of one stack: all stand in the root assembly, and no other artifacts do.
 use Rattle.std.proofs.Common.{◌≡◌, ℕ, zero, suc, ◌+◌, ◌<◌, List, [], ◌∷◌, ◌++◌, map, length, length-append, get_or, codes, Bool, true, false, cond, Option, Some, None, IsSomeAnd, IfSome, refl, sym, ap, subst, ◌∙◌, arith, inl, inr}
 use Rattle.std.specs.Prelude.{◌==◌, ◌&&◌, ◌||◌, if◌then◌else◌, filter, unwrap_or}
 use Rattle.std.specs.List.{list_all, range_with_len}
 use Rattle.std.proofs.lemmas.List.FromFn.{length-range_with_len, get_or-range_with_len}
 use Rattle.cdk_base.specs.declared.code.Code.{Code}
 use Rattle.cdk_base.specs.declared.code.Code.TheVariants.{BadName, SameName}
-use Rattle.cdk_carried.specs.Carried.{has_no_items, is_carried_body}
+use Rattle.cdk_elements.specs.Kinds.{stacks_of}
+use Rattle.cdk_elements.specs.OneStack.{AreOneStack, has_none, is_alone, is_alone_body}
 use Rattle.cdk_language.specs.Construct as language
 use Rattle.cdk_language.specs.Construct.{Body}
 use Rattle.cdk_meaning.specs.Names.{Each, IsIn}
@@ -21,7 +22,6 @@ use Rattle.cdk_stacks.specs.Names as names
 use Rattle.cdk_stacks.specs.Names.{artifact_id, assembly_of, ids_below, is_artifact_id, is_element_misnamed, is_misnamed, is_some_and, is_stack_misnamed, is_stage_misnamed, scope_of, stack_artifact, staged_name, staged_within}
 use Rattle.cdk_stacks.proofs.NameLaws.{stacks_have_names}
 use Rattle.cdk_stacks.proofs.Tests.{not_refused, or_left, or_right}
-use Rattle.cdk_written.specs.Placed.{AreWell, is_carried, stacks_of}
 use Rattle.cdk_manifest.specs.Manifest.{artifacts_of, is_artifact_of, telling_of, template_file}
 use Rattle.cdk_manifest.proofs.FileNames.{letter_in_names, letters_in_names}
 
@@ -57,7 +57,7 @@ in_range n a (suc k) (inr i) = let later = in_range n (a + 1) k i in omega (arit
 
 -- ---- the artifacts of the root assembly
 
-not_stage : (b : Body) → is_carried_body b ≡ true → is_stage b ≡ false
+not_stage : (b : Body) → is_alone_body b ≡ true → is_stage b ≡ false
 not_stage language.root h = refl
 not_stage language.stage h = cc
 not_stage (language.stack d) h = refl
@@ -69,12 +69,12 @@ not_stage (language.mapping m) h = refl
 not_stage (language.output o) h = refl
 not_stage (language.lazy e) h = refl
 
-carried_at : (cs : List Placed) → AreWell cs → (n : ℕ) → is_stage (construct_at cs n).body ≡ false
-carried_at cs w n =
+no_stage_at : (cs : List Placed) → AreOneStack cs → (n : ℕ) → is_stage (construct_at cs n).body ≡ false
+no_stage_at cs w n =
     let c = construct_at cs n in
-    not_stage c.body (and_both (has_no_items c.head.depends) (is_carried_body c.body) (all_at is_carried cs n refl w.carried)).1
+    not_stage c.body (and_both (has_none c.head.depends && has_none c.head.aspects) (is_alone_body c.body) (all_at is_alone cs n refl w.alone)).1
 
-pub at_root : (cs : List Placed) → AreWell cs → (n : ℕ) → assembly_of cs n ≡ 0
+pub at_root : (cs : List Placed) → AreOneStack cs → (n : ℕ) → assembly_of cs n ≡ 0
 at_root cs w n = each_at (λ c. c.stage ≡ 0) cs (scope_of cs n) refl w.staged
 
 stack_alone : (a b : Bool) (m : ℕ) → b ≡ false → m ≡ 0 → ((a || b) && m == 0) ≡ a
@@ -82,9 +82,9 @@ stack_alone true b m e f = ap (λ k. k == 0) f
 stack_alone false b m e f = ap (λ c. c && m == 0) e
 
 -- they are the stacks
-pub artifacts_are_stacks : (cs : List Placed) → AreWell cs → artifacts_of cs 0 ≡ stacks_of cs
+pub artifacts_are_stacks : (cs : List Placed) → AreOneStack cs → artifacts_of cs 0 ≡ stacks_of cs
 artifacts_are_stacks cs w =
-    same_tests (is_artifact_of cs 0) (λ n. is_stack (construct_at cs n).body) (λ n. stack_alone (is_stack (construct_at cs n).body) (is_stage (construct_at cs n).body) (assembly_of cs n) (carried_at cs w n) (at_root cs w n))
+    same_tests (is_artifact_of cs 0) (λ n. is_stack (construct_at cs n).body) (λ n. stack_alone (is_stack (construct_at cs n).body) (is_stage (construct_at cs n).body) (assembly_of cs n) (no_stage_at cs w n) (at_root cs w n))
     (range_with_len 0 (length cs))
 
 pub stack_at : (cs : List Placed) (n : ℕ) → IsIn n (stacks_of cs) → (n < length cs) × (is_stack (construct_at cs n).body ≡ true)
@@ -156,7 +156,7 @@ some_name : (o : Option (List ℕ)) (s : List ℕ) → o ≡ Some s → IsSomeAn
 some_name o s e h = subst (λ p. IsSomeAnd p (λ name. is_stack_name name ≡ true)) e h
 
 -- the id of a stack is its name
-own_id : (cs : List Placed) (n : ℕ) → AreWell cs → name_findings cs ≡ [] → n < length cs → is_stack (construct_at cs n).body ≡ true → list_all is_stack_name_byte (construct_at cs n).head.id ≡ true
+own_id : (cs : List Placed) (n : ℕ) → AreOneStack cs → name_findings cs ≡ [] → n < length cs → is_stack (construct_at cs n).body ≡ true → list_all is_stack_name_byte (construct_at cs n).head.id ≡ true
 own_id cs n w h within stack =
     let named : names.stack_name cs n ≡ Some (construct_at cs n).head.id = ap (λ b. if b then Some (staged_name cs n) else None) stack ∙ ap Some (staged_root n cs n (at_root cs w n)) in
     stack_name_bytes (construct_at cs n).head.id (some_name (names.stack_name cs n) (construct_at cs n).head.id named (stacks_have_names cs n h within stack))
@@ -169,7 +169,7 @@ own_or_made : (direct : Bool) (own : List ℕ) (made : Option (List ℕ)) (id : 
 own_or_made true own made id h g e = let same : own ≡ id = cc in subst (λ s. list_all is_stack_name_byte s ≡ true) same h
 own_or_made false own made id h g e = made_bytes made id g e
 
-pub artifact_bytes : (cs : List Placed) (n : ℕ) → AreWell cs → name_findings cs ≡ [] → IsIn n (stacks_of cs) → list_all is_stack_name_byte ((telling_of cs).artifact n) ≡ true
+pub artifact_bytes : (cs : List Placed) (n : ℕ) → AreOneStack cs → name_findings cs ≡ [] → IsIn n (stacks_of cs) → list_all is_stack_name_byte ((telling_of cs).artifact n) ≡ true
 artifact_bytes cs n w h i =
     let here = stack_at cs n i in
     let id = (telling_of cs).artifact n in

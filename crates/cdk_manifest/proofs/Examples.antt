@@ -63,6 +63,12 @@ inner_manifest : manifest_at (codes "{\"app\":\"2\",\"children\":[{\"kind\":\"st
 unfolding serde_json_on_literals digits
 inner_manifest = refl
 
+-- an element of each kind
+kinds_manifest : manifest_at (codes "{\"app\":\"2\",\"children\":[{\"kind\":\"stack\",\"id\":\"S\",\"children\":[{\"kind\":\"resource\",\"id\":\"R\",\"type\":\"T\"},{\"kind\":\"parameter\",\"id\":\"P\",\"type\":\"String\"},{\"kind\":\"condition\",\"id\":\"C\",\"expression\":{\"Fn::Equals\":[\"a\",{\"Ref\":\"S/P\"}]}},{\"kind\":\"mapping\",\"id\":\"M\",\"mappings\":{\"r\":{\"c\":\"v\"}}},{\"kind\":\"output\",\"id\":\"O\",\"value\":{\"Ref\":\"S/R\"}},{\"kind\":\"lazy\",\"id\":\"L\",\"value\":\"x\"}]}]}") 0
+    ≡ read (codes "{\"artifacts\":{\"S\":{\"dependencies\":[],\"displayName\":\"S\",\"environment\":\"aws://unknown-account/unknown-region\",\"metadata\":{\"/S/C\":[{\"data\":\"C\",\"type\":\"aws:cdk:logicalId\"}],\"/S/M\":[{\"data\":\"M\",\"type\":\"aws:cdk:logicalId\"}],\"/S/O\":[{\"data\":\"O\",\"type\":\"aws:cdk:logicalId\"}],\"/S/P\":[{\"data\":\"P\",\"type\":\"aws:cdk:logicalId\"}],\"/S/R\":[{\"data\":\"R\",\"type\":\"aws:cdk:logicalId\"}]},\"properties\":{\"stackName\":\"S\",\"templateFile\":\"S.template.json\"},\"type\":\"aws:cloudformation:stack\"},\"Tree\":{\"properties\":{\"file\":\"tree.json\"},\"type\":\"cdk:tree\"}},\"version\":\"36.0.0\"}")
+unfolding serde_json_on_literals digits
+kinds_manifest = refl
+
 -- every construct has a node, children stand by their ids
 inner_tree : tree_file_in (codes "{\"app\":\"2\",\"children\":[{\"kind\":\"stack\",\"id\":\"S\",\"children\":[{\"kind\":\"resource\",\"id\":\"Z\",\"type\":\"T::Z\",\"properties\":{}},{\"kind\":\"group\",\"id\":\"G\",\"children\":[{\"kind\":\"resource\",\"id\":\"A\",\"type\":\"T::A\",\"properties\":{\"N\":\"v\"},\"logicalId\":\"Kept\"},{\"kind\":\"lazy\",\"id\":\"L\",\"value\":\"x\"}]},{\"kind\":\"parameter\",\"id\":\"P\",\"type\":\"String\"}]},{\"kind\":\"group\",\"id\":\"Empty\",\"children\":[]}]}")
     ≡ read (codes "{\"tree\":{\"children\":{\"Empty\":{\"id\":\"Empty\",\"path\":\"Empty\"},\"S\":{\"children\":{\"G\":{\"children\":{\"A\":{\"attributes\":{\"aws:cdk:cloudformation:props\":{\"N\":\"v\"},\"aws:cdk:cloudformation:type\":\"T::A\"},\"id\":\"A\",\"path\":\"S/G/A\"},\"L\":{\"id\":\"L\",\"path\":\"S/G/L\"}},\"id\":\"G\",\"path\":\"S/G\"},\"P\":{\"id\":\"P\",\"path\":\"S/P\"},\"Z\":{\"attributes\":{\"aws:cdk:cloudformation:props\":{},\"aws:cdk:cloudformation:type\":\"T::Z\"},\"id\":\"Z\",\"path\":\"S/Z\"}},\"id\":\"S\",\"path\":\"S\"}},\"id\":\"App\",\"path\":\"\"},\"version\":\"tree-0.1\"}")

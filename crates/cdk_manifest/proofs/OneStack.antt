@@ -1,4 +1,4 @@
--- The artifacts of an application that is carried so far: the tree file's alone, or a stack's before or behind it.
+-- The artifacts of an application of one stack: the tree file's alone, or a stack's before or behind it.
 use Rattle.std.proofs.Common.{◌≡◌, ℕ, ◌≤◌, List, [], ◌∷◌, length, codes, true, Some, refl, sym, ap, subst, ◌∙◌, arith, inl}
 use Rattle.std.specs.Prelude.{if◌then◌else◌}
 use Rattle.std.specs.Ordering.{nat_cmp, match_ordering, is_eq}
@@ -8,11 +8,12 @@ use Rattle.std.specs.declared.cmp.Ordering.TheVariants.{Less, Equal, Greater}
 use Rattle.std.proofs.lemmas.Map.Text.{is_eq-slice_cmp}
 use Rattle.std.proofs.lemmas.Slice.Eq.{bytes_eq-Decides}
 use Rattle.serde_json.specs.Data.{Data, string, array, object, no_items, Members, no_members, member, put}
+use Rattle.cdk_elements.specs.Kinds.{stacks_of}
+use Rattle.cdk_elements.specs.OneStack.{AreOneStack}
 use Rattle.cdk_meaning.specs.Names.{IsIn}
 use Rattle.cdk_stacks.specs.Claims.{name_findings}
 use Rattle.cdk_stacks.proofs.NameLaws.{no_artifact_is_tree}
 use Rattle.cdk_tree.specs.Placed.{Placed, construct_at, is_stack}
-use Rattle.cdk_written.specs.Placed.{AreWell, stacks_of}
 use Rattle.cdk_manifest.specs.Manifest.{artifact_entry, artifact_members, nested_entry, stack_entry, stack_metadata, telling_of, template_file, tree_entry, with_tree}
 use Rattle.cdk_manifest.specs.Objects.{filled}
 use Rattle.cdk_manifest.proofs.ArtifactLemmas.{artifact_given, artifacts_are_stacks, at_root, stack_at}
@@ -41,14 +42,14 @@ told_last cs n = member (codes "Tree") tree_entry (member ((telling_of cs).artif
 entry_told : (cs : List Placed) (n : ℕ) → is_stack (construct_at cs n).body ≡ true → artifact_entry cs (telling_of cs) n ≡ told_at cs n
 entry_told cs n stack = ap (λ b. if b then stack_entry cs (telling_of cs) n else nested_entry ((telling_of cs).artifact n)) stack
 
-not_tree : (cs : List Placed) (n : ℕ) → AreWell cs → name_findings cs ≡ [] → IsIn n (stacks_of cs) → slice_cmp nat_cmp (codes "Tree") ((telling_of cs).artifact n) ≡ Equal → ⊥
+not_tree : (cs : List Placed) (n : ℕ) → AreOneStack cs → name_findings cs ≡ [] → IsIn n (stacks_of cs) → slice_cmp nat_cmp (codes "Tree") ((telling_of cs).artifact n) ≡ Equal → ⊥
 not_tree cs n w h i e =
     let id = (telling_of cs).artifact n in
     let same : codes "Tree" ≡ id = (bytes_eq-Decides (codes "Tree") id).0 (sym (is_eq-slice_cmp (codes "Tree") id) ∙ ap is_eq e) in
     no_artifact_is_tree cs n h (stack_at cs n i).0 (at_root cs w n) ((artifact_given cs n h i).0 ∙ ap Some (sym same))
 
 -- in whichever order
-either_way : (P : Members → Type 0) (cs : List Placed) (n : ℕ) → AreWell cs → name_findings cs ≡ [] → IsIn n (stacks_of cs) → P (told_first cs n) → P (told_last cs n)
+either_way : (P : Members → Type 0) (cs : List Placed) (n : ℕ) → AreOneStack cs → name_findings cs ≡ [] → IsIn n (stacks_of cs) → P (told_first cs n) → P (told_last cs n)
     → P (put (codes "Tree") tree_entry (member ((telling_of cs).artifact n) (told_at cs n) no_members))
 either_way P cs n w h i first last = at (slice_cmp nat_cmp (codes "Tree") ((telling_of cs).artifact n)) refl
   where
@@ -59,7 +60,7 @@ either_way P cs n w h i first last = at (slice_cmp nat_cmp (codes "Tree") ((tell
     at Greater is = first
 
 -- what holds of each such list of artifacts and its stacks
-pub with_one_stack : (P : List ℕ → Members → Type 0) (cs : List Placed) → AreWell cs → name_findings cs ≡ [] → P [] (member (codes "Tree") tree_entry no_members)
+pub with_one_stack : (P : List ℕ → Members → Type 0) (cs : List Placed) → AreOneStack cs → name_findings cs ≡ [] → P [] (member (codes "Tree") tree_entry no_members)
     → ((n : ℕ) → IsIn n (stacks_of cs) → P (n ∷ []) (told_first cs n) × P (n ∷ []) (told_last cs n)) → P (stacks_of cs) (with_tree 0 (artifact_members cs (telling_of cs) 0))
 with_one_stack P cs w h none one =
     let t = telling_of cs in

@@ -1,4 +1,4 @@
--- The manifest of an application that is carried so far tells its stacks, and no nested assembly.
+-- The manifest of an application of one stack tells its stacks, and no nested assembly.
 use Rattle.std.proofs.Common.{◌≡◌, ℕ, List, [], map, codes, refl}
 use Rattle.serde_json.specs.Data.{string, object, Members, no_members, member}
 use Rattle.cdk_eval.specs.Manifest as evaluated

@@ -55,7 +55,7 @@ whole_values (suc zero) r within is = cc
 whole_values (suc (suc zero)) r within is = cc
 whole_values (suc (suc (suc zero))) r within is = cc
 whole_values (suc (suc (suc (suc zero)))) r within is =
-    let IsWholeValue : ResourceBody → Type 0 = λ r. IsCanonical (value 4 r.properties) × (depth (value 4 r.properties) ≤ 32) in
+    let IsWholeValue : ResourceBody → Type 0 = λ r. IsCanonical (value 4 r.properties) × (depth (value 4 r.properties) ≤ 94) in
     let same : bucket ≡ r = cc in
     subst IsWholeValue same ((tt, (tt, tt)), omega arith)
 whole_values (suc (suc (suc (suc (suc n))))) r within is = absurd (omega arith)

@@ -1,14 +1,15 @@
--- The manifest of an application that is carried so far misses nothing of its form.
+-- The manifest of an application of one stack misses nothing of its form.
 use Rattle.std.proofs.Common.{◌≡◌, ℕ, ◌+◌, List, [], ◌∷◌, ◌++◌, map, codes, true, None, refl, ap, ◌∙◌, arith}
 use Rattle.std.specs.Prelude.{decimal}
 use Rattle.serde_json.specs.Data.{Data, null, boolean, number, string, array, object, Items, no_items, item, Members, no_members, member}
 use Rattle.cdk_base.specs.Pointer.{step_to}
+use Rattle.cdk_elements.specs.Kinds.{stacks_of}
+use Rattle.cdk_elements.specs.OneStack.{AreOneStack}
 use Rattle.cdk_eval.specs.Form.{first_miss, first_of, in_items, in_members, inside, is_file_name}
 use Rattle.cdk_eval.specs.declared.role.Role.TheVariants.{Anything, Artifacts, Manifest, StackArtifact}
 use Rattle.cdk_stacks.specs.Claims.{name_findings}
 use Rattle.cdk_meaning.specs.Names.{IsIn}
 use Rattle.cdk_tree.specs.Placed.{Placed, construct_at}
-use Rattle.cdk_written.specs.Placed.{AreWell, stacks_of}
 use Rattle.cdk_manifest.specs.Manifest.{artifact_members, manifest_of, stack_metadata, telling_of, template_file, with_tree}
 use Rattle.cdk_manifest.specs.ManifestLaws.{ManifestsAreWhole}
 use Rattle.cdk_manifest.proofs.ArtifactLemmas.{artifact_bytes}
@@ -43,7 +44,7 @@ told_formed path name file ms h = rw (any_members ms, h) refl
 abbrev AreFormed : List ℕ → Members → Type 0
 AreFormed ns ms = in_members (Artifacts true) ms ≡ []
 
-one_formed : (cs : List Placed) → AreWell cs → name_findings cs ≡ [] → (n : ℕ) → IsIn n (stacks_of cs) → AreFormed (n ∷ []) (told_first cs n) × AreFormed (n ∷ []) (told_last cs n)
+one_formed : (cs : List Placed) → AreOneStack cs → name_findings cs ≡ [] → (n : ℕ) → IsIn n (stacks_of cs) → AreFormed (n ∷ []) (told_first cs n) × AreFormed (n ∷ []) (told_last cs n)
 one_formed cs w h n i =
     let id = (telling_of cs).artifact n in
     let own = told_formed (construct_at cs n).path ((telling_of cs).stack_name n) (template_file id) (stack_metadata cs (telling_of cs) n) (template_is_file id (artifact_bytes cs n w h i)) in
@@ -53,7 +54,7 @@ one_formed cs w h n i =
 formed_by : (ms : Members) → in_members (Artifacts true) ms ≡ [] → first_miss (Manifest true) (object (member (codes "artifacts") (object ms) (member (codes "version") (string (codes "36.0.0")) no_members))) ≡ None
 formed_by ms h = ap (λ x. first_of (map (step_to (codes "artifacts")) x ++ [])) h
 
-manifest_formed : (cs : List Placed) → AreWell cs → name_findings cs ≡ [] → first_miss (Manifest true) (manifest_of cs (telling_of cs) 0) ≡ None
+manifest_formed : (cs : List Placed) → AreOneStack cs → name_findings cs ≡ [] → first_miss (Manifest true) (manifest_of cs (telling_of cs) 0) ≡ None
 manifest_formed cs w h = formed_by (with_tree 0 (artifact_members cs (telling_of cs) 0)) (with_one_stack AreFormed cs w h refl (one_formed cs w h))
 
 pub manifests_are_whole : ManifestsAreWhole

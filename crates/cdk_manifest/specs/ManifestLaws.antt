@@ -1,14 +1,15 @@
--- The manifest of an application that is carried so far: the form that an evaluation asks for, and the stacks that it tells (own).
+-- The manifest of an application of one stack: the form that an evaluation asks for, and the stacks that it tells (own).
 use Rattle.std.specs.Prelude.{◌≡◌, ◌≤◌, ℕ, List, [], map, None, true}
 use Rattle.serde_json.specs.Data.{Data, depth}
 use Rattle.cdk_base.specs.Pretty.{IsCanonical}
+use Rattle.cdk_elements.specs.Kinds.{stacks_of}
+use Rattle.cdk_elements.specs.OneStack.{AreOneStack}
 use Rattle.cdk_eval.specs.Form.{first_miss}
 use Rattle.cdk_eval.specs.Manifest as evaluated
 use Rattle.cdk_eval.specs.Manifest.{StackArtifact, artifacts, nested_directories}
 use Rattle.cdk_eval.specs.declared.role.Role.TheVariants.{Manifest}
 use Rattle.cdk_stacks.specs.Claims.{name_findings}
 use Rattle.cdk_tree.specs.Placed.{Placed}
-use Rattle.cdk_written.specs.Placed.{AreWell, stacks_of}
 use Rattle.cdk_manifest.specs.Manifest.{manifest_of, telling_of, template_file}
 
 -- ---- its form
@@ -21,7 +22,7 @@ pub record IsWholeManifest (d : Data) : Type 0 where
   pub formed : first_miss (Manifest true) d ≡ None
 
 abbrev pub ManifestsAreWhole : Type 0
-ManifestsAreWhole = (cs : List Placed) → AreWell cs → name_findings cs ≡ [] → IsWholeManifest (manifest_of cs (telling_of cs) 0)
+ManifestsAreWhole = (cs : List Placed) → AreOneStack cs → name_findings cs ≡ [] → IsWholeManifest (manifest_of cs (telling_of cs) 0)
 
 -- ---- its stacks
 
@@ -40,4 +41,4 @@ pub record TellsStacks (cs : List Placed) (d : Data) : Type 0 where
   pub nested : nested_directories (artifacts d) ≡ []
 
 abbrev pub ManifestsTellStacks : Type 0
-ManifestsTellStacks = (cs : List Placed) → AreWell cs → name_findings cs ≡ [] → TellsStacks cs (manifest_of cs (telling_of cs) 0)
+ManifestsTellStacks = (cs : List Placed) → AreOneStack cs → name_findings cs ≡ [] → TellsStacks cs (manifest_of cs (telling_of cs) 0)

@@ -14,9 +14,9 @@ pub record IsWholeTreeFile (d : Data) : Type 0 where
   pub canonical : IsCanonical d
   pub shallow : depth d ≤ 127
 
--- the values of resources are canonical and at most 32 deep
+-- the values of resources are canonical and at most 94 deep
 abbrev pub AreWholeValues : (ℕ → Expression → Data) → List Placed → Type 0
-AreWholeValues value cs = (n : ℕ) (r : ResourceBody) → n < length cs → (construct_at cs n).body ≡ language.resource r → IsCanonical (value n r.properties) × (depth (value n r.properties) ≤ 32)
+AreWholeValues value cs = (n : ℕ) (r : ResourceBody) → n < length cs → (construct_at cs n).body ≡ language.resource r → IsCanonical (value n r.properties) × (depth (value n r.properties) ≤ 94)
 
 abbrev pub TreeFilesAreWhole : Type 0
 TreeFilesAreWhole = (a : Application) (value : ℕ → Expression → Data) → place_findings (constructs_of a) ≡ [] → AreWholeValues value (constructs_of a) → IsWholeTreeFile (tree_file_of value a)

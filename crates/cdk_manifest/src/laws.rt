@@ -1,7 +1,7 @@
 // What the crates above may rely on: each function stands for the law in its contract, and does nothing.
 ghost use Rattle.cdk_manifest.specs.ManifestLaws.{ManifestsAreWhole, ManifestsTellStacks};
 
-/// The law that the manifest of an application that is carried so far is read back as it is, and has the form that is asked of it.
+/// The law that the manifest of an application of one stack is read back as it is, and has the form that is asked of it.
 pub fn manifests_are_whole()
     ensures { ManifestsAreWhole }
 {}
