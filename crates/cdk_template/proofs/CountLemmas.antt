@@ -11,7 +11,7 @@ use Rattle.cdk_tree.specs.Placed.{Placed, construct_at}
 use Rattle.cdk_tree.specs.declared.role.Found.{Found}
 use Rattle.cdk_template.specs.Counts.{count_at}
 use Rattle.cdk_template.specs.Room.{is_exceeded, is_over, one_less, room_beside, room_in}
-use Rattle.cdk_template.specs.Template.{among, is_in, is_output}
+use Rattle.cdk_elements.specs.Kinds.{among, is_in, is_output}
 use Rattle.cdk_template.specs.declared.room.Room.{Room}
 
 -- no room left is too little

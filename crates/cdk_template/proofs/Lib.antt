@@ -1,11 +1,12 @@
 mod Examples
-pub mod LiteralLemmas
 pub mod CountLemmas
+pub mod MemberLemmas
 pub mod EntryLemmas
-pub mod WholeLiterals
+pub mod ValueLemmas
+pub mod MarkerLemmas
 pub mod FitLemmas
 pub mod NumberLemmas
+pub mod EntryFits
 pub mod WholeTemplates
 pub mod SectionLemmas
-pub mod PartLemmas
 mod Instance

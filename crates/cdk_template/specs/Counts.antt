@@ -3,12 +3,12 @@ use Rattle.std.specs.Prelude.{ℕ, ◌||◌, ◌&&◌, List, [], ◌∷◌, ◌+
 use Rattle.std.specs.List.{range_with_len}
 use Rattle.cdk_base.specs.declared.code.Code.{Code}
 use Rattle.cdk_base.specs.declared.code.Code.TheVariants.{TooMany}
+use Rattle.cdk_elements.specs.Kinds.{is_output, of_kind}
 use Rattle.cdk_language.specs.Construct.{Body}
 use Rattle.cdk_tree.specs.Expected.{is_resource, is_parameter, is_mapping}
 use Rattle.cdk_tree.specs.PlaceFindings.{when}
 use Rattle.cdk_tree.specs.Placed.{Placed, construct_at, is_stack}
 use Rattle.cdk_tree.specs.declared.role.Found.{Found}
-use Rattle.cdk_template.specs.Template.{is_output, of_kind}
 
 abbrev pub count_of : List Placed → ℕ → (Body → Bool) → ℕ
 count_of cs stack kind = length (of_kind cs stack kind)

@@ -1,21 +1,58 @@
--- Members that are put in where they are given, and a stack's resources put in while constructs are looked at (own).
-use Rattle.std.specs.Prelude.{ℕ, ◌&&◌, List, Option, Some, None, if◌then◌else◌}
-use Rattle.serde_json.specs.Data.{Data, Members, put}
-use Rattle.cdk_language.specs.Construct as language
-use Rattle.cdk_language.specs.Construct.{Body, ResourceBody}
-use Rattle.cdk_tree.specs.Expected.{is_resource}
+-- Members that are put in where they are given, and a section filled while constructs are looked at (own).
+use Rattle.std.specs.Prelude.{ℕ, ◌&&◌, List, Bool, Option, Some, None, option_map, codes, if◌then◌else◌}
+use Rattle.serde_json.specs.Data.{Data, string, Members, no_members, member, put}
+use Rattle.cdk_elements.specs.Kinds.{is_in, is_output}
+use Rattle.cdk_language.specs.Construct.{Body, OutputBody, ResourceBody}
+use Rattle.cdk_tree.specs.Expected.{is_condition, is_mapping, is_parameter, is_resource}
 use Rattle.cdk_tree.specs.Placed.{Placed, construct_at}
-use Rattle.cdk_template.specs.Carried.{spelling_of}
-use Rattle.cdk_template.specs.Template.{entry_of, is_in}
+use Rattle.cdk_template.specs.Template.{Spelling, entry_of, export_name, if_given, path_metadata, policy_name, section_of, unless_empty}
+use Rattle.cdk_template.specs.declared.section.Section.{Section}
+use Rattle.cdk_template.specs.declared.section.Section.TheVariants as sections
 
 abbrev pub put_given : List ℕ → Option Data → Members → Members
 put_given k None ms = ms
 put_given k (Some d) ms = put k d ms
 
-abbrev pub with_entry : List Placed → ℕ → ℕ → Members → Members
-with_entry cs stack n ms =
-    if is_in stack (construct_at cs n).stack && is_resource (construct_at cs n).body then put ((spelling_of cs).logical n) (entry_of (spelling_of cs) n (construct_at cs n)) ms else ms
+-- ---- sections
 
-abbrev pub resource_in : Body → Option ResourceBody
-resource_in (language.resource r) = Some r
-resource_in b = None
+abbrev pub section_key : Section → List ℕ
+section_key sections.Conditions = codes "Conditions"
+section_key sections.Mappings = codes "Mappings"
+section_key sections.Outputs = codes "Outputs"
+section_key sections.Parameters = codes "Parameters"
+section_key sections.Resources = codes "Resources"
+
+-- the kind of construct that a section holds
+abbrev pub has_kind : Section → Body → Bool
+has_kind sections.Conditions = is_condition
+has_kind sections.Mappings = is_mapping
+has_kind sections.Outputs = is_output
+has_kind sections.Parameters = is_parameter
+has_kind sections.Resources = is_resource
+
+-- with the entry of a construct, where it is of the stack and the kind
+abbrev pub with_entry : List Placed → Spelling → ℕ → (Body → Bool) → ℕ → Members → Members
+with_entry cs s stack kind n ms = if is_in stack (construct_at cs n).stack && kind (construct_at cs n).body then put (s.logical n) (entry_of s n (construct_at cs n)) ms else ms
+
+-- with a stack's section, where it isn't empty
+abbrev pub with_section : List Placed → Spelling → ℕ → Section → Members → Members
+with_section cs s stack section ms = put_given (section_key section) (unless_empty (section_of cs s stack (has_kind section))) ms
+
+-- ---- what an entry has beside its value
+
+-- of a resource that waits for no other
+abbrev pub resource_members : Spelling → List ℕ → ResourceBody → Members
+resource_members s path r =
+    if_given (codes "Condition") (option_map (λ t. string (s.named t)) r.condition)
+    (if_given (codes "DeletionPolicy") (option_map (λ p. string (policy_name p)) r.deletion)
+    (member (codes "Metadata") (path_metadata path)
+    (member (codes "Type") (string r.resource_type)
+    (if_given (codes "UpdateReplacePolicy") (option_map (λ p. string (policy_name p)) r.replace)
+    no_members))))
+
+abbrev pub output_members : Spelling → OutputBody → Members
+output_members s o =
+    if_given (codes "Condition") (option_map (λ t. string (s.named t)) o.condition)
+    (if_given (codes "Description") (option_map string o.description)
+    (if_given (codes "Export") (option_map export_name o.export)
+    no_members))

@@ -1,7 +1,8 @@
-pub mod Literals
 pub mod Template
-pub mod Carried
+pub mod Own
+pub mod Sources
 pub mod Entries
 pub mod Counts
 pub mod Room
+pub mod Markers
 pub mod Laws

@@ -1,10 +1,10 @@
 -- How many constructs of each kind a template may still take (own).
 use Rattle.std.specs.Prelude.{ℕ, zero, suc, ◌||◌, List, length, nat_lt, Bool, Option, Some, None, option_map, if◌then◌else◌}
+use Rattle.cdk_elements.specs.Kinds.{among, is_in, is_output}
 use Rattle.cdk_language.specs.Construct as language
 use Rattle.cdk_language.specs.Construct.{Body}
 use Rattle.cdk_tree.specs.Expected.{is_resource, is_parameter, is_mapping}
 use Rattle.cdk_tree.specs.Placed.{Placed, construct_at}
-use Rattle.cdk_template.specs.Template.{among, is_in, is_output}
 use Rattle.cdk_template.specs.declared.room.Room.{Room}
 
 -- so many of each kind are too many

@@ -1,7 +1,7 @@
 -- The template of a stack, of its constructs in walk order (CloudFormation's template anatomy; the metadata's path is AWS CDK's).
-use Rattle.std.specs.Prelude.{ℕ, ◌==◌, ◌&&◌, List, [], ◌∷◌, filter, length, Bool, true, false, Option, Some, None, option_map, codes}
-use Rattle.std.specs.List.{range_with_len}
+use Rattle.std.specs.Prelude.{ℕ, List, [], ◌∷◌, Bool, Option, Some, None, option_map, codes}
 use Rattle.serde_json.specs.Data.{Data, string, array, object, Items, no_items, item, Members, no_members, member, put}
+use Rattle.cdk_elements.specs.Kinds.{is_output, of_kind}
 use Rattle.cdk_language.specs.Condition.{Condition}
 use Rattle.cdk_language.specs.Construct as language
 use Rattle.cdk_language.specs.Construct.{Body, ResourceBody, ParameterBody, OutputBody}
@@ -115,22 +115,6 @@ abbrev pub entry_of : Spelling → ℕ → Placed → Data
 entry_of s n c = entry_in s n c.path c.body
 
 -- ---- the template
-
-abbrev pub is_output : Body → Bool
-is_output (language.output o) = true
-is_output b = false
-
-abbrev pub is_in : ℕ → Option ℕ → Bool
-is_in stack None = false
-is_in stack (Some n) = n == stack
-
--- those of the numbers that are a stack's constructs of a kind
-abbrev pub among : List Placed → ℕ → (Body → Bool) → List ℕ → List ℕ
-among cs stack kind ns = filter (λ n. is_in stack (construct_at cs n).stack && kind (construct_at cs n).body) ns
-
--- a stack's constructs of a kind, in walk order
-abbrev pub of_kind : List Placed → ℕ → (Body → Bool) → List ℕ
-of_kind cs stack kind = among cs stack kind (range_with_len 0 (length cs))
 
 abbrev pub with_generated : List (List ℕ × Data) → Members → Members
 with_generated [] ms = ms

@@ -5,7 +5,7 @@ ghost use Rattle.cdk_tree.specs.Placed.{construct_at, is_stack as spec_is_stack}
 ghost use Rattle.cdk_tree.specs.TreeView.{constructs, FindsFirst};
 ghost use Rattle.cdk_template.specs.Counts.{count_findings, is_too_large as spec_is_too_large};
 ghost use Rattle.cdk_template.specs.Room.{room_in};
-ghost use Rattle.cdk_template.specs.Template.{is_in as spec_is_in};
+ghost use Rattle.cdk_elements.specs.Kinds.{is_in as spec_is_in};
 
 use crate::room::Room;
 use cdk_base::Code;

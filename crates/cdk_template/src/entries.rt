@@ -1,44 +1,66 @@
-// What stands in a template for a resource.
-ghost use Rattle.std.specs.Prelude.{◌≡◌, ℕ, ◌<◌, List, length, IfOk, IsTrue};
-ghost use Rattle.serde_json.specs.View.{view};
-ghost use Rattle.cdk_carried.specs.Carried.{is_carried_body};
-ghost use Rattle.cdk_language.specs.Construct.{resource as resource_body, resource_view};
-ghost use Rattle.cdk_tree.specs.Placed.{Placed};
-ghost use Rattle.cdk_template.specs.Carried.{spelling_of};
-ghost use Rattle.cdk_template.specs.Template.{path_metadata as spec_path_metadata, resource_entry as spec_resource_entry};
+// What stands in a template for a construct.
+ghost use Rattle.std.specs.Prelude.{◌≡◌, ◌<◌, length, IfOk};
+ghost use Rattle.serde_json.specs.Data.{object};
+ghost use Rattle.serde_json.specs.View.{members_view, view};
+ghost use Rattle.cdk_language.specs.Construct.{kind_view};
+ghost use Rattle.cdk_tree.specs.Placed.{construct_at};
+ghost use Rattle.cdk_template.specs.Own.{spelling_of};
+ghost use Rattle.cdk_template.specs.Sources.{AreSources, RendersOwn, constructs_in};
+ghost use Rattle.cdk_template.specs.Template.{entry_in, entry_of};
 
-use crate::literal::literal_value;
-use crate::members::{members_or_none, policy_value, put_given};
+use crate::outputs::output_entry;
+use crate::parameters::parameter_entry;
+use crate::resources::resource_entry;
+use crate::sources::Sources;
+use crate::values::condition_of;
 use cdk_base::{Map, Value};
-use cdk_language::Resource;
-use serde_json::{json, put};
-use std::alloc::{AllocError, Global};
+use cdk_language::Kind;
+use cdk_resolve::Kept;
+use cdk_tree::NodeId;
+use std::alloc::AllocError;
 
-fn path_metadata(alloc: Global, path: &str) -> Result<Value, AllocError>
-    ensures { IfOk result (λ v. view v ≡ spec_path_metadata path.now) }
+fn mapping_entry(members: &Map) -> Result<Value, AllocError>
+    ensures { IfOk result (λ v. view v ≡ object (members_view members.now.entries)) }
 {
-    json!(in alloc; {"aws:cdk:path": path})
+    Ok(Value::Object(members.clone()?))
 }
 
-/// The entry of a resource of a path.
-pub(crate) fn resource_entry(
-    alloc: Global,
-    path: &str,
-    resource: &Resource,
+fn entry_of_kind(
+    sources: &Sources<'_>,
+    kept: &mut Kept<'_>,
+    at: NodeId,
+    kind: &Kind,
 ) -> Result<Value, AllocError>
-    requires { IsTrue (is_carried_body (resource_body (resource_view resource.now))) }
-    ensures { IfOk result (λ v. (cs : List Placed) (n : ℕ) → view v ≡ spec_resource_entry (spelling_of cs) n path.now (resource_view resource.now)) }
+    requires within { at < length (constructs_in sources.now) }
+    requires sources { AreSources sources.now }
+    requires kept { RendersOwn (constructs_in sources.now) kept.old }
+    requires body { (construct_at (constructs_in sources.now) at).body ≡ kind_view kind.now }
+    ensures value { IfOk result (λ v. view v ≡ entry_in (spelling_of (constructs_in sources.now)) at (construct_at (constructs_in sources.now) at).path (kind_view kind.now)) }
+    ensures kept { RendersOwn (constructs_in sources.now) kept.new }
 {
-    let deletion = policy_value(alloc, resource.deletion)?;
-    let metadata = path_metadata(alloc, path)?;
-    let properties = literal_value(alloc, &resource.properties)?;
-    let resource_type = Value::try_from_str(alloc, resource.resource_type.as_str())?;
-    let replace = policy_value(alloc, resource.replace)?;
-    let mut entry = Map::new(alloc);
-    put_given(&mut entry, alloc, "DeletionPolicy", deletion)?;
-    put(&mut entry, alloc, "Metadata", metadata)?;
-    put_given(&mut entry, alloc, "Properties", members_or_none(properties))?;
-    put(&mut entry, alloc, "Type", resource_type)?;
-    put_given(&mut entry, alloc, "UpdateReplacePolicy", replace)?;
-    Ok(Value::Object(entry))
+    match kind {
+        Kind::Resource(resource) => resource_entry(sources, kept, at, resource),
+        Kind::Parameter(parameter) => parameter_entry(sources.alloc, parameter),
+        Kind::Condition(_) => condition_of(sources, kept, at),
+        Kind::Mapping(members) => mapping_entry(members),
+        Kind::Output(output) => output_entry(sources, kept, at, output),
+        Kind::App | Kind::Stage | Kind::Stack { .. } | Kind::Group | Kind::Lazy(_) => Ok(
+            Value::Object(Map::new(sources.alloc)),
+        ),
+    }
+}
+
+/// The entry of a construct in the template of the stack of `kept`.
+pub(crate) fn entry(
+    sources: &Sources<'_>,
+    kept: &mut Kept<'_>,
+    at: NodeId,
+) -> Result<Value, AllocError>
+    requires within { at < length (constructs_in sources.now) }
+    requires sources { AreSources sources.now }
+    requires kept { RendersOwn (constructs_in sources.now) kept.old }
+    ensures value { IfOk result (λ v. view v ≡ entry_of (spelling_of (constructs_in sources.now)) at (construct_at (constructs_in sources.now) at)) }
+    ensures kept { RendersOwn (constructs_in sources.now) kept.new }
+{
+    entry_of_kind(sources, kept, at, &sources.tree.node(at).kind)
 }

@@ -1,15 +1,24 @@
-//! The template of a stack: the values of its constructs' expressions, its sections, and how much it may hold.
+//! The template of a stack: its sections, with rendered values, what its texts may not hold, and how much it may hold.
 #![tactic(auto)]
 
 mod counts;
 mod entries;
 mod laws;
-mod literal;
+mod markers;
 mod members;
+mod naming;
+mod outputs;
+mod parameters;
+mod resources;
 mod room;
+mod section;
 mod sections;
+mod sources;
+mod templates;
+mod values;
 
 pub use counts::check_counts;
-pub use laws::{literals_are_whole, templates_are_whole};
-pub use literal::literal_value;
-pub use sections::template;
+pub use laws::{templates_are_unmarked, templates_are_whole};
+pub use sources::{Sources, kept_for};
+pub use templates::template;
+pub use values::value_of;

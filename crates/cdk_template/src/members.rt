@@ -1,6 +1,6 @@
-// Members of objects that are there only where they are given.
-ghost use Rattle.std.specs.Prelude.{◌≡◌, Some, OnOk, IfOk, option_map};
-ghost use Rattle.serde_json.specs.Data.{string};
+// Members of objects, most of which are there only where they are given.
+ghost use Rattle.std.specs.Prelude.{◌≡◌, Some, OnOk, option_map};
+ghost use Rattle.serde_json.specs.Data.{string, put as spec_put};
 ghost use Rattle.serde_json.specs.View.{view, members_view};
 ghost use Rattle.cdk_template.specs.Entries.{put_given as spec_put_given};
 ghost use Rattle.cdk_template.specs.Template.{members_of, non_empty, policy_name as spec_policy_name, unless_empty};
@@ -10,53 +10,80 @@ use cdk_language::Policy;
 use serde_json::put;
 use std::alloc::{AllocError, Global};
 
-/// Puts the member in where it is given.
-pub(crate) fn put_given(
+/// Puts a text in.
+pub(crate) fn put_text(
     members: &mut Map,
     alloc: Global,
     key: &str,
-    value: Option<Value>,
+    text: &str,
 ) -> Result<(), AllocError>
-    ensures { OnOk result (members_view members.new.entries ≡ spec_put_given key.now (option_map view value) (members_view members.old.entries)) }
+    ensures { OnOk result (members_view members.new.entries ≡ spec_put key.now (string text.now) (members_view members.old.entries)) }
 {
-    match value {
-        Some(value) => put(members, alloc, key, value),
+    let value = Value::try_from_str(alloc, text)?;
+    put(members, alloc, key, value)
+}
+
+/// Puts a text in where it is given.
+pub(crate) fn put_text_given(
+    members: &mut Map,
+    alloc: Global,
+    key: &str,
+    text: &Option<Text>,
+) -> Result<(), AllocError>
+    ensures { OnOk result (members_view members.new.entries ≡ spec_put_given key.now (option_map string text.now) (members_view members.old.entries)) }
+{
+    match text {
+        Some(text) => put_text(members, alloc, key, text.as_str()),
         None => Ok(()),
     }
 }
 
-#[tactic(auto, using(crate::proofs::EntryLemmas::not_empty))]
-/// The object of these members, where there are any.
-pub(crate) fn object_unless_empty(members: Map) -> Option<Value>
-    ensures { option_map view result ≡ unless_empty (members_view members.entries) }
+/// Puts a text in where it isn't empty.
+pub(crate) fn put_text_unless_empty(
+    members: &mut Map,
+    alloc: Global,
+    key: &str,
+    text: &str,
+) -> Result<(), AllocError>
+    ensures { OnOk result (members_view members.new.entries ≡ spec_put_given key.now (non_empty (Some text.now)) (members_view members.old.entries)) }
 {
-    if members.is_empty() {
-        None
-    } else {
-        Some(Value::Object(members))
+    if text.is_empty() {
+        return Ok(());
     }
+    put_text(members, alloc, key, text)
 }
 
-/// The value where it is an object with members.
-pub(crate) fn members_or_none(value: Value) -> Option<Value>
-    ensures { option_map view result ≡ unless_empty (members_of (view value)) }
+/// Puts an object of these members in, where there are any.
+pub(crate) fn put_object_unless_empty(
+    members: &mut Map,
+    alloc: Global,
+    key: &str,
+    inner: Map,
+) -> Result<(), AllocError>
+    ensures { OnOk result (members_view members.new.entries ≡ spec_put_given key.now (unless_empty (members_view inner.entries)) (members_view members.old.entries)) }
+{
+    if inner.is_empty() {
+        return Ok(());
+    }
+    put(members, alloc, key, Value::Object(inner))?;
+    Ok(())
+}
+
+/// Puts the value in where it is an object with members.
+pub(crate) fn put_members_of(
+    members: &mut Map,
+    alloc: Global,
+    key: &str,
+    value: Value,
+) -> Result<(), AllocError>
+    ensures { OnOk result (members_view members.new.entries ≡ spec_put_given key.now (unless_empty (members_of (view value))) (members_view members.old.entries)) }
 {
     match value {
-        Value::Object(members) => object_unless_empty(members),
-        Value::Null | Value::Bool(_) | Value::Number(_) | Value::String(_) | Value::Array(_) =>
-            None,
+        Value::Object(inner) => put_object_unless_empty(members, alloc, key, inner),
+        Value::Null | Value::Bool(_) | Value::Number(_) | Value::String(_) | Value::Array(_) => Ok(
+            (),
+        ),
     }
-}
-
-/// The text, where it isn't empty.
-pub(crate) fn text_unless_empty(alloc: Global, text: &Text) -> Result<Option<Value>, AllocError>
-    ensures { IfOk result (λ value. option_map view value ≡ non_empty (Some text.now)) }
-{
-    let text = text.as_str();
-    if text.is_empty() {
-        return Ok(None);
-    }
-    Ok(Some(Value::try_from_str(alloc, text)?))
 }
 
 fn policy_name(policy: Policy) -> &'static str
@@ -69,15 +96,17 @@ fn policy_name(policy: Policy) -> &'static str
     }
 }
 
-/// The name of a policy, where there is one.
-pub(crate) fn policy_value(
+/// Puts the name of a policy in, where there is one.
+pub(crate) fn put_policy(
+    members: &mut Map,
     alloc: Global,
+    key: &str,
     policy: Option<Policy>,
-) -> Result<Option<Value>, AllocError>
-    ensures { IfOk result (λ value. option_map view value ≡ option_map (λ p. string (spec_policy_name p)) policy) }
+) -> Result<(), AllocError>
+    ensures { OnOk result (members_view members.new.entries ≡ spec_put_given key.now (option_map (λ p. string (spec_policy_name p)) policy) (members_view members.old.entries)) }
 {
     match policy {
-        Some(policy) => Ok(Some(Value::try_from_str(alloc, policy_name(policy))?)),
-        None => Ok(None),
+        Some(policy) => put_text(members, alloc, key, policy_name(policy)),
+        None => Ok(()),
     }
 }

@@ -1,123 +1,80 @@
-// The template of a stack.
-ghost use Rattle.std.specs.Prelude.{◌≡◌, ◌<◌, List, [], length, unwrap_or, option_map, IfOk, OnOk, IsTrue};
-ghost use Rattle.serde_json.specs.View.{view, members_view};
-ghost use Rattle.cdk_language.specs.Construct.{kind_view, resource_view};
-ghost use Rattle.cdk_tree.specs.Expected.{is_resource};
-ghost use Rattle.cdk_tree.specs.Placed.{Placed};
-ghost use Rattle.cdk_tree.specs.TreeView.{constructs};
-ghost use Rattle.cdk_stacks.specs.Made.{AreNamesOf};
-ghost use Rattle.cdk_stacks.specs.Names.{logical_name as spec_logical_name};
-ghost use Rattle.cdk_template.specs.Carried.{spelling_of};
-ghost use Rattle.cdk_template.specs.Entries.{resource_in as spec_resource_in, with_entry};
-ghost use Rattle.cdk_template.specs.Template.{description_of, non_empty, section_of, template_of};
-ghost use Rattle.cdk_written.specs.Placed.{are_carried};
+// The sections of a stack's template that hold constructs.
+ghost use Rattle.std.specs.Prelude.{◌≡◌, ◌<◌, length, IfOk, OnOk};
+ghost use Rattle.serde_json.specs.View.{members_view};
+ghost use Rattle.cdk_template.specs.Entries.{has_kind, with_entry, with_section};
+ghost use Rattle.cdk_template.specs.Own.{spelling_of};
+ghost use Rattle.cdk_template.specs.Sources.{AreSources, RendersOwn, constructs_in};
+ghost use Rattle.cdk_template.specs.Template.{section_of};
 
 use crate::counts::is_in;
-use crate::entries::resource_entry;
-use crate::members::{object_unless_empty, put_given, text_unless_empty};
-use cdk_base::{Map, Value};
-use cdk_language::{Kind, Resource};
-use cdk_stacks::Names;
-use cdk_tree::{NodeId, Tree};
+use crate::entries::entry;
+use crate::members::put_object_unless_empty;
+use crate::naming::logical_name;
+use crate::section::Section;
+use crate::sources::Sources;
+use cdk_base::Map;
+use cdk_resolve::Kept;
+use cdk_tree::NodeId;
 use serde_json::put;
-use std::alloc::{AllocError, Global};
+use std::alloc::AllocError;
 
-// The logical name of a construct, or the empty text where it has none.
-fn logical_name(names: &Names, at: NodeId) -> &str
-    ensures { (cs : List Placed) → AreNamesOf names.now cs → result.now ≡ unwrap_or (spec_logical_name cs at) [] }
-{
-    match names.logical(at) {
-        Some(name) => name,
-        None => "",
-    }
-}
-
-fn resource_in(kind: &Kind) -> Option<&Resource>
-    ensures { option_map (λ r. resource_view r.now) result ≡ spec_resource_in (kind_view kind.now) }
-{
-    match kind {
-        Kind::Resource(resource) => Some(resource),
-        _ => None,
-    }
-}
-
-/// Puts the entry of the construct in where it is a resource of the stack.
-fn put_resource(
-    alloc: Global,
-    tree: &Tree,
-    names: &Names,
+/// Puts the entry of the construct in where the section holds it.
+fn put_entry(
+    sources: &Sources<'_>,
+    kept: &mut Kept<'_>,
     stack: NodeId,
+    section: Section,
     at: NodeId,
-    resources: &mut Map,
+    entries: &mut Map,
 ) -> Result<(), AllocError>
-    requires within { at < length (constructs tree.now) }
-    requires names { AreNamesOf names.now (constructs tree.now) }
-    requires carried { IsTrue (are_carried (constructs tree.now)) }
-    ensures { OnOk result (members_view resources.new.entries ≡ with_entry (constructs tree.now) stack at (members_view resources.old.entries)) }
+    requires within { at < length (constructs_in sources.now) }
+    requires sources { AreSources sources.now }
+    requires kept { RendersOwn (constructs_in sources.now) kept.old }
+    ensures entries { OnOk result (members_view entries.new.entries ≡ with_entry (constructs_in sources.now) (spelling_of (constructs_in sources.now)) stack (has_kind section) at (members_view entries.old.entries)) }
+    ensures kept { RendersOwn (constructs_in sources.now) kept.new }
 {
-    if !is_in(tree, at, stack) {
+    if !is_in(sources.tree, at, stack) || !section.holds(&sources.tree.node(at).kind) {
         return Ok(());
     }
-    let Some(resource) = resource_in(&tree.node(at).kind) else {
-        return Ok(());
-    };
-    let path = tree.path_of(at);
-    let name = logical_name(names, at);
-    let entry = resource_entry(alloc, path, resource)?;
-    put(resources, alloc, name, entry)?;
-    Ok(())
+    let name = logical_name(sources, at);
+    let entry = entry(sources, kept, at)?;
+    put(entries, sources.alloc, name, entry)
 }
 
-fn resources_of(alloc: Global, tree: &Tree, names: &Names, stack: NodeId) -> Result<Map, AllocError>
-    requires names { AreNamesOf names.now (constructs tree.now) }
-    requires carried { IsTrue (are_carried (constructs tree.now)) }
-    ensures { IfOk result (λ m. members_view m.entries ≡ section_of (constructs tree.now) (spelling_of (constructs tree.now)) stack is_resource) }
+fn entries_of(
+    sources: &Sources<'_>,
+    kept: &mut Kept<'_>,
+    stack: NodeId,
+    section: Section,
+) -> Result<Map, AllocError>
+    requires sources { AreSources sources.now }
+    requires kept { RendersOwn (constructs_in sources.now) kept.old }
+    ensures entries { IfOk result (λ m. members_view m.entries ≡ section_of (constructs_in sources.now) (spelling_of (constructs_in sources.now)) stack (has_kind section)) }
+    ensures kept { OnOk result (RendersOwn (constructs_in sources.now) kept.new) }
 {
-    let mut resources = Map::new(alloc);
-    for number in 0..tree.len() {
-        let Some(at) = tree.id(number) else {
+    let mut entries = Map::new(sources.alloc);
+    for number in 0..sources.tree.len() {
+        let Some(at) = sources.tree.id(number) else {
             unreachable!()
         };
-        put_resource(alloc, tree, names, stack, at, &mut resources)?;
+        put_entry(sources, kept, stack, section, at, &mut entries)?;
     }
-    Ok(resources)
+    Ok(entries)
 }
 
-fn description_of_kind(alloc: Global, kind: &Kind) -> Result<Option<Value>, AllocError>
-    ensures { IfOk result (λ value. option_map view value ≡ non_empty (description_of (kind_view kind.now))) }
-{
-    match kind {
-        Kind::Stack {
-            description: Some(text),
-        } => text_unless_empty(alloc, text),
-        _ => Ok(None),
-    }
-}
-
-/// The CloudFormation template of a stack: its description where it isn't empty, and its resources where there are any, by
-/// their logical names, each with the path of its construct (AWS CDK's metadata).
-///
-/// It answers an error only where no memory is found. Each stack takes one pass over the tree.
-pub fn template(
-    alloc: Global,
-    tree: &Tree,
-    names: &Names,
+/// Puts a section of the stack's template in, where the stack has constructs for it.
+pub(crate) fn put_section(
+    sections: &mut Map,
+    sources: &Sources<'_>,
+    kept: &mut Kept<'_>,
     stack: NodeId,
-) -> Result<Value, AllocError>
-    requires within { stack < length (constructs tree.now) }
-    requires names { AreNamesOf names.now (constructs tree.now) }
-    requires carried { IsTrue (are_carried (constructs tree.now)) }
-    ensures { IfOk result (λ v. view v ≡ template_of (constructs tree.now) (spelling_of (constructs tree.now)) stack) }
+    section: Section,
+) -> Result<(), AllocError>
+    requires sources { AreSources sources.now }
+    requires kept { RendersOwn (constructs_in sources.now) kept.old }
+    ensures sections { OnOk result (members_view sections.new.entries ≡ with_section (constructs_in sources.now) (spelling_of (constructs_in sources.now)) stack section (members_view sections.old.entries)) }
+    ensures kept { OnOk result (RendersOwn (constructs_in sources.now) kept.new) }
 {
-    let description = description_of_kind(alloc, &tree.node(stack).kind)?;
-    let resources = resources_of(alloc, tree, names, stack)?;
-    let mut sections = Map::new(alloc);
-    put_given(&mut sections, alloc, "Description", description)?;
-    put_given(
-        &mut sections,
-        alloc,
-        "Resources",
-        object_unless_empty(resources),
-    )?;
-    Ok(Value::Object(sections))
+    let entries = entries_of(sources, kept, stack, section)?;
+    put_object_unless_empty(sections, sources.alloc, section.key(), entries)
 }

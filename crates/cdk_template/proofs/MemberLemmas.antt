@@ -1,0 +1,142 @@
+-- Members in their places, by key bytes.
+use Rattle.std.proofs.Common.{◌≡◌, ℕ, List, Option, Some, None, Less, Greater, nat_cmp, codes, refl, ap, ◌∙◌}
+use Rattle.std.specs.Ordering.{match_ordering}
+use Rattle.std.specs.Cmp.Lexicographic.{slice_cmp}
+use Rattle.serde_json.specs.Data.{Data, Members, no_members, member, put}
+use Rattle.cdk_template.specs.Entries.{put_given}
+use Rattle.cdk_template.specs.Template.{if_given}
+
+-- ---- one member
+
+-- a member of the key is put in before all others
+abbrev pub GoesFirst : List ℕ → Members → Type 0
+GoesFirst k ms = (d : Data) → put k d ms ≡ member k d ms
+
+pub before_none : (k : List ℕ) → GoesFirst k no_members
+before_none k d = refl
+
+pub before_member : (k l : List ℕ) (e : Data) (ms : Members) → slice_cmp nat_cmp k l ≡ Less → GoesFirst k (member l e ms)
+before_member k l e ms h d = ap (λ o. match_ordering o (member k d (member l e ms)) (member l d ms) (member l e (put k d ms))) h
+
+pub before_given : (k l : List ℕ) (o : Option Data) (ms : Members) → slice_cmp nat_cmp k l ≡ Less → GoesFirst k ms → GoesFirst k (if_given l o ms)
+before_given k l None ms h first = first
+before_given k l (Some e) ms h first = before_member k l e ms h
+
+pub given_first : (k : List ℕ) (o : Option Data) (ms : Members) → GoesFirst k ms → put_given k o ms ≡ if_given k o ms
+given_first k None ms first = refl
+given_first k (Some d) ms first = first d
+
+-- behind a member that may be missing
+pub past_given : (k l : List ℕ) (o : Option Data) (d : Data) (ms : Members) → slice_cmp nat_cmp k l ≡ Greater → put k d (if_given l o ms) ≡ if_given l o (put k d ms)
+past_given k l None d ms h = refl
+past_given k l (Some e) d ms h = ap (λ o. match_ordering o (member k d (member l e ms)) (member l d ms) (member l e (put k d ms))) h
+
+-- ---- entries
+
+pub parameter_members : (d e : Option Data) (t : Data)
+    → put_given (codes "Default") d (put_given (codes "Description") e (put (codes "Type") t no_members)) ≡ if_given (codes "Default") d (if_given (codes "Description") e (member (codes "Type") t no_members))
+parameter_members None None t = refl
+parameter_members None (Some e) t = refl
+parameter_members (Some d) None t = refl
+parameter_members (Some d) (Some e) t = refl
+
+pub resource_members : (c d u : Option Data) (m t : Data)
+    → put_given (codes "Condition") c (put_given (codes "DeletionPolicy") d (put (codes "Metadata") m (put (codes "Type") t (put_given (codes "UpdateReplacePolicy") u no_members))))
+    ≡ if_given (codes "Condition") c (if_given (codes "DeletionPolicy") d (member (codes "Metadata") m (member (codes "Type") t (if_given (codes "UpdateReplacePolicy") u no_members))))
+resource_members None None None m t = refl
+resource_members None None (Some u) m t = refl
+resource_members None (Some d) None m t = refl
+resource_members None (Some d) (Some u) m t = refl
+resource_members (Some c) None None m t = refl
+resource_members (Some c) None (Some u) m t = refl
+resource_members (Some c) (Some d) None m t = refl
+resource_members (Some c) (Some d) (Some u) m t = refl
+
+pub with_properties : (c d p : Option Data) (m t : Data) (ms : Members)
+    → put_given (codes "Properties") p (if_given (codes "Condition") c (if_given (codes "DeletionPolicy") d (member (codes "Metadata") m (member (codes "Type") t ms))))
+    ≡ if_given (codes "Condition") c (if_given (codes "DeletionPolicy") d (member (codes "Metadata") m (if_given (codes "Properties") p (member (codes "Type") t ms))))
+with_properties c d None m t ms = refl
+with_properties None None (Some p) m t ms = refl
+with_properties None (Some d) (Some p) m t ms = refl
+with_properties (Some c) None (Some p) m t ms = refl
+with_properties (Some c) (Some d) (Some p) m t ms = refl
+
+pub output_members : (c d e : Option Data)
+    → put_given (codes "Condition") c (put_given (codes "Description") d (put_given (codes "Export") e no_members)) ≡ if_given (codes "Condition") c (if_given (codes "Description") d (if_given (codes "Export") e no_members))
+output_members None None None = refl
+output_members None None (Some e) = refl
+output_members None (Some d) None = refl
+output_members None (Some d) (Some e) = refl
+output_members (Some c) None None = refl
+output_members (Some c) None (Some e) = refl
+output_members (Some c) (Some d) None = refl
+output_members (Some c) (Some d) (Some e) = refl
+
+pub with_value : (c d e : Option Data) (v : Data)
+    → put (codes "Value") v (if_given (codes "Condition") c (if_given (codes "Description") d (if_given (codes "Export") e no_members)))
+    ≡ if_given (codes "Condition") c (if_given (codes "Description") d (if_given (codes "Export") e (member (codes "Value") v no_members)))
+with_value c d e v =
+    past_given (codes "Value") (codes "Condition") c v _ refl
+    ∙ ap (if_given (codes "Condition") c) (past_given (codes "Value") (codes "Description") d v _ refl
+    ∙ ap (if_given (codes "Description") d) (past_given (codes "Value") (codes "Export") e v no_members refl))
+
+-- ---- sections
+
+module _ (c d m o p r : Option Data) where
+  abbrev pub resources_in : Members
+  resources_in = if_given (codes "Resources") r no_members
+
+  abbrev pub parameters_in : Members
+  parameters_in = if_given (codes "Parameters") p resources_in
+
+  abbrev pub outputs_in : Members
+  outputs_in = if_given (codes "Outputs") o parameters_in
+
+  abbrev pub mappings_in : Members
+  mappings_in = if_given (codes "Mappings") m outputs_in
+
+  abbrev pub described_in : Members
+  described_in = if_given (codes "Description") d mappings_in
+
+  abbrev pub conditions_in : Members
+  conditions_in = if_given (codes "Conditions") c described_in
+
+  before_resources : (k : List ℕ) → slice_cmp nat_cmp k (codes "Resources") ≡ Less → GoesFirst k resources_in
+  before_resources k e = before_given k (codes "Resources") r no_members e (before_none k)
+
+  before_parameters : (k : List ℕ) → slice_cmp nat_cmp k (codes "Resources") ≡ Less → slice_cmp nat_cmp k (codes "Parameters") ≡ Less → GoesFirst k parameters_in
+  before_parameters k e f = before_given k (codes "Parameters") p resources_in f (before_resources k e)
+
+  before_outputs : (k : List ℕ) → slice_cmp nat_cmp k (codes "Resources") ≡ Less → slice_cmp nat_cmp k (codes "Parameters") ≡ Less → slice_cmp nat_cmp k (codes "Outputs") ≡ Less → GoesFirst k outputs_in
+  before_outputs k e f g = before_given k (codes "Outputs") o parameters_in g (before_parameters k e f)
+
+  before_mappings : (k : List ℕ) → slice_cmp nat_cmp k (codes "Resources") ≡ Less → slice_cmp nat_cmp k (codes "Parameters") ≡ Less → slice_cmp nat_cmp k (codes "Outputs") ≡ Less → slice_cmp nat_cmp k (codes "Mappings") ≡ Less
+      → GoesFirst k mappings_in
+  before_mappings k e f g h = before_given k (codes "Mappings") m outputs_in h (before_outputs k e f g)
+
+  put_resources : put_given (codes "Resources") r no_members ≡ resources_in
+  put_resources = given_first (codes "Resources") r no_members (before_none (codes "Resources"))
+
+  put_parameters : put_given (codes "Parameters") p resources_in ≡ parameters_in
+  put_parameters = given_first (codes "Parameters") p resources_in (before_resources (codes "Parameters") refl)
+
+  put_outputs : put_given (codes "Outputs") o parameters_in ≡ outputs_in
+  put_outputs = given_first (codes "Outputs") o parameters_in (before_parameters (codes "Outputs") refl refl)
+
+  put_mappings : put_given (codes "Mappings") m outputs_in ≡ mappings_in
+  put_mappings = given_first (codes "Mappings") m outputs_in (before_outputs (codes "Mappings") refl refl refl)
+
+  put_description : put_given (codes "Description") d mappings_in ≡ described_in
+  put_description = given_first (codes "Description") d mappings_in (before_mappings (codes "Description") refl refl refl refl)
+
+  put_conditions : put_given (codes "Conditions") c described_in ≡ conditions_in
+  put_conditions =
+      given_first (codes "Conditions") c described_in (before_given (codes "Conditions") (codes "Description") d mappings_in refl (before_mappings (codes "Conditions") refl refl refl refl))
+
+  -- put in from the last one to the first
+  pub sections_are :
+      put_given (codes "Conditions") c (put_given (codes "Description") d (put_given (codes "Mappings") m (put_given (codes "Outputs") o (put_given (codes "Parameters") p (put_given (codes "Resources") r no_members)))))
+      ≡ conditions_in
+  sections_are =
+      ap (put_given (codes "Conditions") c) (ap (put_given (codes "Description") d) (ap (put_given (codes "Mappings") m) (ap (put_given (codes "Outputs") o) (ap (put_given (codes "Parameters") p) put_resources
+      ∙ put_parameters) ∙ put_outputs) ∙ put_mappings) ∙ put_description) ∙ put_conditions

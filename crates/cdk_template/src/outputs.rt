@@ -1,0 +1,73 @@
+// What stands in a template for an output.
+ghost use Rattle.std.specs.Prelude.{◌≡◌, ◌<◌, codes, length, option_map, IfOk, OnOk};
+ghost use Rattle.serde_json.specs.View.{members_view, view};
+ghost use Rattle.cdk_language.specs.Construct.{output as output_body, output_view};
+ghost use Rattle.cdk_tree.specs.Placed.{construct_at};
+ghost use Rattle.cdk_template.specs.Entries.{output_members as spec_output_members, put_given};
+ghost use Rattle.cdk_template.specs.Own.{spelling_of};
+ghost use Rattle.cdk_template.specs.Sources.{AreSources, RendersOwn, constructs_in};
+ghost use Rattle.cdk_template.specs.Template.{export_name as spec_export_name, output_entry as spec_output_entry};
+
+use crate::members::put_text_given;
+use crate::naming::put_condition;
+use crate::sources::Sources;
+use crate::values::value_of;
+use cdk_base::{Map, Text, Value};
+use cdk_language::Output;
+use cdk_resolve::Kept;
+use cdk_tree::NodeId;
+use serde_json::{json, put};
+use std::alloc::{AllocError, Global};
+
+fn export_name(alloc: Global, name: &str) -> Result<Value, AllocError>
+    ensures { IfOk result (λ v. view v ≡ spec_export_name name.now) }
+{
+    json!(in alloc; {"Name": name})
+}
+
+fn put_export(members: &mut Map, alloc: Global, name: &Option<Text>) -> Result<(), AllocError>
+    ensures { OnOk result (members_view members.new.entries ≡ put_given (codes "Export") (option_map spec_export_name name.now) (members_view members.old.entries)) }
+{
+    let Some(name) = name else {
+        return Ok(());
+    };
+    let export = export_name(alloc, name.as_str())?;
+    put(members, alloc, "Export", export)
+}
+
+/// All members of an output's entry but its value.
+fn output_members(sources: &Sources<'_>, output: &Output) -> Result<Map, AllocError>
+    requires { AreSources sources.now }
+    ensures { IfOk result (λ m. members_view m.entries ≡ spec_output_members (spelling_of (constructs_in sources.now)) (output_view output.now)) }
+{
+    let mut entry = Map::new(sources.alloc);
+    put_export(&mut entry, sources.alloc, &output.export)?;
+    put_text_given(
+        &mut entry,
+        sources.alloc,
+        "Description",
+        &output.description,
+    )?;
+    put_condition(&mut entry, sources, &output.condition)?;
+    Ok(entry)
+}
+
+/// The entry of an output.
+pub(crate) fn output_entry(
+    sources: &Sources<'_>,
+    kept: &mut Kept<'_>,
+    at: NodeId,
+    output: &Output,
+) -> Result<Value, AllocError>
+    requires within { at < length (constructs_in sources.now) }
+    requires sources { AreSources sources.now }
+    requires kept { RendersOwn (constructs_in sources.now) kept.old }
+    requires body { (construct_at (constructs_in sources.now) at).body ≡ output_body (output_view output.now) }
+    ensures value { IfOk result (λ v. view v ≡ spec_output_entry (spelling_of (constructs_in sources.now)) at (output_view output.now)) }
+    ensures kept { RendersOwn (constructs_in sources.now) kept.new }
+{
+    let mut entry = output_members(sources, output)?;
+    let value = value_of(sources, kept, at)?;
+    put(&mut entry, sources.alloc, "Value", value)?;
+    Ok(Value::Object(entry))
+}

@@ -1,0 +1,80 @@
+// The template of a stack.
+ghost use Rattle.std.specs.Prelude.{◌≡◌, ◌<◌, codes, length, IfOk, OnOk};
+ghost use Rattle.serde_json.specs.View.{members_view, view};
+ghost use Rattle.cdk_language.specs.Construct.{kind_view};
+ghost use Rattle.cdk_template.specs.Entries.{put_given};
+ghost use Rattle.cdk_template.specs.Markers.{IsTemplate};
+ghost use Rattle.cdk_template.specs.Own.{spelling_of};
+ghost use Rattle.cdk_template.specs.Sources.{AreSources, RendersOwn, SpellsOwn, constructs_in, scope_in};
+ghost use Rattle.cdk_template.specs.Template.{description_of, non_empty, template_of};
+
+use crate::markers::holds_marker;
+use crate::members::put_text_unless_empty;
+use crate::section::Section;
+use crate::sections::put_section;
+use crate::sources::{Sources, kept_for};
+use cdk_base::{Code, Map, Value};
+use cdk_language::Kind;
+use cdk_resolve::Kept;
+use cdk_tree::{Found, NodeId, PassError};
+use std::alloc::{AllocError, Global};
+
+fn put_description(sections: &mut Map, alloc: Global, kind: &Kind) -> Result<(), AllocError>
+    ensures { OnOk result (members_view sections.new.entries ≡ put_given (codes "Description") (non_empty (description_of (kind_view kind.now))) (members_view sections.old.entries)) }
+{
+    match kind {
+        Kind::Stack {
+            description: Some(text),
+        } => put_text_unless_empty(sections, alloc, "Description", text.as_str()),
+        _ => Ok(()),
+    }
+}
+
+fn sections_of(
+    sources: &Sources<'_>,
+    kept: &mut Kept<'_>,
+    stack: NodeId,
+) -> Result<Value, AllocError>
+    requires within { stack < length (constructs_in sources.now) }
+    requires sources { AreSources sources.now }
+    requires kept { RendersOwn (constructs_in sources.now) kept.old }
+    ensures { IfOk result (λ v. view v ≡ template_of (constructs_in sources.now) (spelling_of (constructs_in sources.now)) stack) }
+{
+    let mut sections = Map::new(sources.alloc);
+    put_section(&mut sections, sources, kept, stack, Section::Resources)?;
+    put_section(&mut sections, sources, kept, stack, Section::Parameters)?;
+    put_section(&mut sections, sources, kept, stack, Section::Outputs)?;
+    put_section(&mut sections, sources, kept, stack, Section::Mappings)?;
+    put_description(&mut sections, sources.alloc, &sources.tree.node(stack).kind)?;
+    put_section(&mut sections, sources, kept, stack, Section::Conditions)?;
+    Ok(Value::Object(sections))
+}
+
+/// The CloudFormation template of a stack: its description where it isn't empty, and its conditions, mappings, outputs, parameters
+/// and resources, each section where there are any, by their logical names. A resource has the path of its construct (AWS CDK's
+/// metadata). References stand in it as the stack spells them, and each value is rendered once.
+///
+/// - `MarkerLeft` at the stack: the beginning of a token's marker stands in a text or a key of the template (own, after AWS CDK's
+///   check of unresolved tokens).
+/// - `Memory` where none is found.
+///
+/// It takes one pass over the tree for each section.
+pub fn template(sources: &Sources<'_>, stack: NodeId) -> Result<Value, PassError>
+    requires within { stack < length (constructs_in sources.now) }
+    requires sources { AreSources sources.now }
+    requires own { SpellsOwn (constructs_in sources.now) (scope_in sources.now stack) }
+    ensures { IsTemplate result (constructs_in sources.now) stack }
+{
+    let mut kept = kept_for(sources, stack);
+    let template = match sections_of(sources, &mut kept, stack) {
+        Ok(template) => template,
+        Err(_) => return Err(PassError::Memory),
+    };
+    if holds_marker(&template) {
+        return Err(PassError::Fault(Found {
+            code: Code::MarkerLeft,
+            at: stack,
+        }));
+    }
+    Ok(template)
+}
