@@ -1,126 +1,125 @@
 -- The template of a stack is built of the stack's constructs.
-use Rattle.std.proofs.Common.{◌≡◌, ℕ, ◌<◌, List, [], length, Bool, true, false, Option, Some, None, IsSomeAnd, refl, sym, ap, ◌∙◌, subst, true≢false}
-use Rattle.std.specs.Prelude.{◌&&◌, unwrap_or, option_map, option_and_then, codes, is_none, IsTrue, ⊤}
-use Rattle.std.specs.List.{list_all}
-use Rattle.serde_json.specs.Data.{Data, no_members}
-use Rattle.serde_json.specs.Find.{get}
-use Rattle.cdk_carried.specs.Carried.{is_carried_body}
-use Rattle.cdk_eval.specs.Sections.{section}
+use Rattle.std.proofs.Common.{◌≡◌, ◌<◌, ℕ, List, ◌++◌, length, Bool, true, false, Some, refl, sym, ap, ◌∙◌, subst, true≢false}
+use Rattle.serde_json.specs.Data.{Data, Members}
+use Rattle.cdk_elements.specs.Elements.{constructs_in, element_of, logical_of, name_of, own_homes, parts_of}
+use Rattle.cdk_elements.specs.Kinds.{of_kind, stacks_of}
+use Rattle.cdk_formed.proofs.FitConditions.{conditions_are_well}
 use Rattle.cdk_language.specs.Construct as language
-use Rattle.cdk_language.specs.Construct.{Body, ResourceBody}
-use Rattle.cdk_meaning.specs.Constructs.{resource_of}
-use Rattle.cdk_meaning.specs.Names.{IsIn, Each}
-use Rattle.cdk_plain.specs.Rendered.{Home, Local}
+use Rattle.cdk_language.specs.Construct.{Body}
+use Rattle.cdk_meaning.specs.Constructs.{condition_at, condition_in}
+use Rattle.cdk_meaning.specs.Names.{Each, IsIn}
 use Rattle.cdk_meaning.specs.Sections.{IsSection}
-use Rattle.cdk_meaning.specs.StackTemplate.{Parts, IsResourceEntry, IsTemplateOf, has_colon, homes_of}
-use Rattle.cdk_names.specs.Forms.{is_logical}
-use Rattle.cdk_stacks.specs.Claims.{name_findings}
+use Rattle.cdk_meaning.specs.StackTemplate.{IsMappingEntry, IsParameterEntry, IsResourceEntry, IsTemplateOf, Parts, has_colon}
+use Rattle.cdk_meaning.proofs.NameLists.{each_at}
+use Rattle.cdk_mentions.specs.Laws.{ConditionsAreFree}
+use Rattle.cdk_mentions.specs.OneTree.{IsOneTree}
+use Rattle.cdk_mentions.proofs.ConditionNames.{conditions_are_closed}
+use Rattle.cdk_mentions.proofs.ElementStacks.{elements_stand_in_the_stack}
+use Rattle.cdk_mentions.proofs.GuardTargets.{guards_are_conditions}
+use Rattle.cdk_mentions.proofs.Lists.{each_append}
+use Rattle.cdk_mentions.proofs.OperandMentions.{operands_mention_theirs}
+use Rattle.cdk_plain.specs.Plain.{IsWellCondition}
+use Rattle.cdk_plain.specs.Rendered.{rendered_condition}
 use Rattle.cdk_stacks.specs.Names.{logical_name}
 use Rattle.cdk_stacks.proofs.NameLaws.{elements_have_logical_names}
-use Rattle.cdk_template.specs.Carried.{spelling_of}
-use Rattle.cdk_template.specs.Template.{entry_in, entry_of, is_in, of_kind, resource_entry, template_of}
-use Rattle.cdk_template.proofs.SectionLemmas.{own_resources, own_parameters, own_conditions, own_mappings, names_apart, is_section, no_condition}
-use Rattle.cdk_tree.specs.Expected.{is_resource}
+use Rattle.cdk_template.specs.Own.{spelling_of}
+use Rattle.cdk_template.specs.Template.{entry_of, section_of, template_of}
+use Rattle.cdk_template.proofs.NumberLemmas.{AreElements, names_apart}
+use Rattle.cdk_template.proofs.SectionLemmas.{conditions_are_elements, is_section, mappings_are_elements, own_conditions, own_mappings, own_parameters, own_resources, parameters_are_elements, resources_are_elements, targets_apart}
+use Rattle.cdk_tree.specs.Expected.{is_condition, is_mapping, is_parameter, is_resource}
 use Rattle.cdk_tree.specs.PlaceFindings.{is_element}
-use Rattle.cdk_tree.specs.Placed.{Placed, construct_at, find_path}
-use Rattle.cdk_tree.proofs.Tests.{and_left, and_right}
-use Rattle.cdk_tree_meaning.specs.Constructs.{constructs_in, element_of, name_around, name_of}
-use Rattle.cdk_written.specs.Placed.{AreWell, is_carried, are_carried}
-use Rattle.cdk_tree_meaning.proofs.Members.{each_picked, each_before}
-use Rattle.cdk_tree_meaning.proofs.NameTests.{all_at, logical_has_no_colon, same_number}
-
--- no reference stands in it, so that no construct has a home
-abbrev pub no_target : ℕ → Home
-no_target n = Local []
-
-abbrev pub no_attribute : ℕ → List ℕ → Home
-no_attribute n a = Local []
-
--- its resources alone
-abbrev pub parts_of : List Placed → ℕ → Parts
-parts_of cs stack = record { parameters = []; resources = of_kind cs stack is_resource; conditions = []; mappings = [] }
+use Rattle.cdk_tree.specs.Placed.{Placed, construct_at}
+use Rattle.cdk_tree_meaning.specs.Checked.{AreChecked}
+use Rattle.cdk_tree_meaning.proofs.Entries.{condition_stands, mapping_stands, parameter_stands, resource_stands}
+use Rattle.cdk_tree_meaning.proofs.NameTests.{named_without_colon}
+use Rattle.cdk_tree_meaning.proofs.Trees.{each_of_kind, one_tree}
 
 abbrev pub entry_at : List Placed → ℕ → Data
 entry_at cs n = entry_of (spelling_of cs) n (construct_at cs n)
 
-empty_section : (name : ℕ → List ℕ) (entry : ℕ → Data) → IsSection name entry [] no_members
-empty_section name entry = record { found = λ n i. absurd i; lacks = λ k h. refl; counted = refl }
+-- a section by entries that are equal
+section_alike : (name : ℕ → List ℕ) (f g : ℕ → Data) (ns : List ℕ) (ms : Members) → Each (λ n. f n ≡ g n) ns → IsSection name f ns ms → IsSection name g ns ms
+section_alike name f g ns ms same s = record { found = λ n i. s.found n i ∙ ap Some (each_at (λ n. f n ≡ g n) n ns same i); lacks = s.lacks; counted = s.counted }
 
--- ---- one resource
+module _ (conditions_are_free : ConditionsAreFree) (cs : List Placed) (c : AreChecked cs) (stack : ℕ) (there : IsIn stack (stacks_of cs)) where
+  abbrev parts : Parts
+  parts = parts_of cs stack
 
-is_element_at : (b : Body) → is_resource b ≡ true → is_element b ≡ true
-is_element_at (language.resource r) h = refl
-is_element_at language.root h = absurd (true≢false (sym h))
-is_element_at language.stage h = absurd (true≢false (sym h))
-is_element_at (language.stack d) h = absurd (true≢false (sym h))
-is_element_at language.group h = absurd (true≢false (sym h))
-is_element_at (language.parameter p) h = refl
-is_element_at (language.condition_body c) h = refl
-is_element_at (language.mapping m) h = refl
-is_element_at (language.output o) h = refl
-is_element_at (language.lazy e) h = absurd (true≢false (sym h))
+  abbrev name : ℕ → List ℕ
+  name n = logical_of cs n
 
-named_without_colon : (o : Option (List ℕ)) → IsSomeAnd o (λ name. is_logical name ≡ true) → has_colon (unwrap_or o []) ≡ false
-named_without_colon None h = absurd h
-named_without_colon (Some name) h = logical_has_no_colon name h
+  tree : IsOneTree cs stack
+  tree = one_tree cs stack c there
 
-name_in : (cs : List Placed) (o : Option ℕ) (stack : ℕ) → is_in stack o ≡ true → name_around cs o ≡ name_of cs stack
-name_in cs None stack h = absurd (true≢false (sym h))
-name_in cs (Some n) stack h = ap (name_of cs) (same_number n stack h)
+  -- ---- one construct
 
-none_of : (o : Option (List ℕ)) → is_none o ≡ true → o ≡ None
-none_of None h = refl
-none_of (Some t) h = absurd (true≢false (sym h))
+  no_colon : (n : ℕ) → n < length cs → is_element (construct_at cs n).body ≡ true → has_colon (name n) ≡ false
+  no_colon n within is = named_without_colon (logical_name cs n) (elements_have_logical_names cs n c.named within is)
 
--- its entry has no condition, as it has none
-entry_of_resource : (cs : List Placed) (stack n : ℕ) (path : List ℕ) (r : ResourceBody) → is_none r.condition ≡ true
-    → IsResourceEntry (λ c. (constructs_in cs).logical c) [] (resource_of (option_and_then (find_path cs) r.condition)) (resource_entry (spelling_of cs) n path r)
-entry_of_resource cs stack n path r h =
-    let none = none_of r.condition h in
-    let guard : option_and_then (find_path cs) r.condition ≡ None = ap (option_and_then (find_path cs)) none in
-    let P : Option ℕ → Type 0 = λ g. IsResourceEntry (λ c. (constructs_in cs).logical c) [] (resource_of g) (resource_entry (spelling_of cs) n path r) in
-    subst P (sym guard) (no_condition (spelling_of cs) n path r none, tt)
+  stands_here : (n : ℕ) → n < length cs → is_element (construct_at cs n).body ≡ true → (constructs_in cs).stack n ≡ name_of cs stack
+  stands_here n within is = (elements_stand_in_the_stack cs stack tree n within is).1
 
-resource_entry_at : (cs : List Placed) (stack n : ℕ) (path : List ℕ) (b : Body) → is_carried_body b ≡ true → is_resource b ≡ true
-    → IsResourceEntry (λ c. (constructs_in cs).logical c) [] (element_of cs b) (entry_in (spelling_of cs) n path b)
-resource_entry_at cs stack n path (language.resource r) carried h = entry_of_resource cs stack n path r (and_left (is_none r.condition) _ carried)
-resource_entry_at cs stack n path language.root carried h = absurd (true≢false (sym h))
-resource_entry_at cs stack n path language.stage carried h = absurd (true≢false (sym h))
-resource_entry_at cs stack n path (language.stack d) carried h = absurd (true≢false (sym h))
-resource_entry_at cs stack n path language.group carried h = absurd (true≢false (sym h))
-resource_entry_at cs stack n path (language.parameter p) carried h = absurd (true≢false (sym h))
-resource_entry_at cs stack n path (language.condition_body c) carried h = absurd (true≢false (sym h))
-resource_entry_at cs stack n path (language.mapping m) carried h = absurd (true≢false (sym h))
-resource_entry_at cs stack n path (language.output o) carried h = absurd (true≢false (sym h))
-resource_entry_at cs stack n path (language.lazy e) carried h = absurd (true≢false (sym h))
+  condition_is_well : (n : ℕ) (b : Body) → n < length cs → (construct_at cs n).body ≡ b → is_condition b ≡ true → IsWellCondition (condition_in n (element_of cs n b))
+  condition_is_well n (language.condition_body d) within e is = (conditions_are_well cs c.sound c.formed n d within e).0
+  condition_is_well n b within e is = absurd (true≢false (sym is))
 
--- ---- those of a stack
+  -- ---- those of a kind
 
-module _ (cs : List Placed) (well : AreWell cs) (named : name_findings cs ≡ []) (stack : ℕ) where
-  abbrev is_own : ℕ → Bool
-  is_own n = is_in stack (construct_at cs n).stack && is_resource (construct_at cs n).body
+  each_element : (kind : Body → Bool) → AreElements kind → (P : ℕ → Type 0) → ((n : ℕ) → n < length cs → is_element (construct_at cs n).body ≡ true → P n) → Each P (of_kind cs stack kind)
+  each_element kind are P f = each_of_kind cs stack kind P (λ n within is. f n within (are (construct_at cs n).body is))
 
-  pub each_resource : (P : ℕ → Type 0) → ((n : ℕ) → n < length cs → is_in stack (construct_at cs n).stack ≡ true → is_resource (construct_at cs n).body ≡ true → P n) → Each P (of_kind cs stack is_resource)
-  each_resource P f = each_picked P is_own (length cs) (λ n within own. f n within (and_left (is_in stack (construct_at cs n).stack) (is_resource (construct_at cs n).body) own) (and_right (is_in stack (construct_at cs n).stack) (is_resource (construct_at cs n).body) own))
+  -- by their names
+  section_by_names : (kind : Body → Bool) → AreElements kind → IsSection name (entry_at cs) (of_kind cs stack kind) (section_of cs (spelling_of cs) stack kind)
+  section_by_names kind are = is_section cs stack kind are c.named
 
-  pub carried_body : (n : ℕ) → n < length cs → is_carried_body (construct_at cs n).body ≡ true
-  carried_body n within = and_right _ (is_carried_body (construct_at cs n).body) (all_at is_carried cs n well.carried within)
+  -- conditions, as they are rendered
+  abbrev condition_json : ℕ → Data
+  condition_json n = rendered_condition (own_homes cs) (condition_at (constructs_in cs) n)
 
-  pub template_is_built : IsTemplateOf (constructs_in cs) (parts_of cs stack) (homes_of (constructs_in cs) no_target no_attribute) (entry_at cs) (name_of cs stack) (template_of cs (spelling_of cs) stack)
+  conditions_stand : IsSection name condition_json parts.conditions (section_of cs (spelling_of cs) stack is_condition)
+  conditions_stand =
+      section_alike name (entry_at cs) condition_json parts.conditions (section_of cs (spelling_of cs) stack is_condition)
+      (each_of_kind cs stack is_condition (λ n. entry_at cs n ≡ condition_json n) (λ n within is. condition_stands cs n (construct_at cs n).path (construct_at cs n).body is))
+      (section_by_names is_condition conditions_are_elements)
+
+  parameters_are : Each (λ n. IsParameterEntry ((constructs_in cs).element n) (entry_at cs n)) parts.parameters
+  parameters_are = each_of_kind cs stack is_parameter (λ n. IsParameterEntry ((constructs_in cs).element n) (entry_at cs n)) (λ n within is. parameter_stands cs n (construct_at cs n).path (construct_at cs n).body is)
+
+  resources_are : Each (λ n. IsResourceEntry (λ d. (constructs_in cs).logical d) parts.conditions ((constructs_in cs).element n) (entry_at cs n)) parts.resources
+  resources_are =
+      each_of_kind cs stack is_resource (λ n. IsResourceEntry (λ d. (constructs_in cs).logical d) parts.conditions ((constructs_in cs).element n) (entry_at cs n))
+      (λ n within is. resource_stands cs stack n (construct_at cs n).path (construct_at cs n).body is (guards_are_conditions cs stack tree n within))
+
+  mappings_are : Each (λ n. IsMappingEntry ((constructs_in cs).element n) (entry_at cs n)) parts.mappings
+  mappings_are = each_of_kind cs stack is_mapping (λ n. IsMappingEntry ((constructs_in cs).element n) (entry_at cs n)) (λ n within is. mapping_stands cs n (construct_at cs n).path (construct_at cs n).body is (c.formed n within))
+
+  conditions_well : Each (λ n. IsWellCondition (condition_at (constructs_in cs) n)) parts.conditions
+  conditions_well = each_of_kind cs stack is_condition (λ n. IsWellCondition (condition_at (constructs_in cs) n)) (λ n within is. condition_is_well n (construct_at cs n).body within refl is)
+
+  abbrev HasNoColon : ℕ → Type 0
+  HasNoColon n = has_colon (name n) ≡ false
+
+  abbrev StandsHere : ℕ → Type 0
+  StandsHere n = (constructs_in cs).stack n ≡ name_of cs stack
+
+  -- ---- all of them
+
+  pub template_is_built : IsTemplateOf (constructs_in cs) parts (own_homes cs) (entry_at cs) (name_of cs stack) (template_of cs (spelling_of cs) stack)
   template_is_built = record {
-    parameters_stand = subst (IsSection (λ n. (constructs_in cs).logical n) (entry_at cs) []) (sym (own_parameters cs stack well)) (empty_section _ _);
-    resources_stand = subst (IsSection (λ n. (constructs_in cs).logical n) (entry_at cs) (of_kind cs stack is_resource)) (sym (own_resources cs stack)) (is_section cs stack named);
-    conditions_stand = subst (IsSection (λ n. (constructs_in cs).logical n) _ []) (sym (own_conditions cs stack well)) (empty_section _ _);
-    mappings_stand = subst (IsSection (λ n. (constructs_in cs).logical n) (entry_at cs) []) (sym (own_mappings cs stack well)) (empty_section _ _);
-    parameters = tt;
-    resources = each_resource _ (λ n within own is. resource_entry_at cs stack n (construct_at cs n).path (construct_at cs n).body (carried_body n within) is);
-    mappings = tt;
-    targets_apart = names_apart cs stack named;
-    conditions_apart = tt;
-    names = each_resource _ (λ n within own is. named_without_colon (logical_name cs n) (elements_have_logical_names cs n named within (is_element_at (construct_at cs n).body is)));
-    placed = each_before (λ n. (constructs_in cs).stack n ≡ name_of cs stack) (of_kind cs stack is_resource) (each_resource _ (λ n within own is. name_in cs (construct_at cs n).stack stack own));
-    closed = tt;
-    well = tt;
-    operands = tt;
-    free = tt;
+    parameters_stand = subst (IsSection name (entry_at cs) parts.parameters) (sym (own_parameters cs stack)) (section_by_names is_parameter parameters_are_elements);
+    resources_stand = subst (IsSection name (entry_at cs) parts.resources) (sym (own_resources cs stack)) (section_by_names is_resource resources_are_elements);
+    conditions_stand = subst (IsSection name condition_json parts.conditions) (sym (own_conditions cs stack)) conditions_stand;
+    mappings_stand = subst (IsSection name (entry_at cs) parts.mappings) (sym (own_mappings cs stack)) (section_by_names is_mapping mappings_are_elements);
+    parameters = parameters_are;
+    resources = resources_are;
+    mappings = mappings_are;
+    targets_apart = targets_apart cs stack c.named;
+    conditions_apart = names_apart cs stack is_condition conditions_are_elements c.named;
+    names = each_append HasNoColon parts.parameters parts.resources (each_element is_parameter parameters_are_elements HasNoColon no_colon) (each_element is_resource resources_are_elements HasNoColon no_colon);
+    placed = each_append StandsHere parts.parameters (parts.resources ++ parts.conditions) (each_element is_parameter parameters_are_elements StandsHere stands_here)
+        (each_append StandsHere parts.resources parts.conditions (each_element is_resource resources_are_elements StandsHere stands_here) (each_element is_condition conditions_are_elements StandsHere stands_here));
+    closed = conditions_are_closed cs stack tree;
+    well = conditions_well;
+    operands = operands_mention_theirs cs stack tree c.operands;
+    free = conditions_are_free cs stack tree c.cycles;
   }

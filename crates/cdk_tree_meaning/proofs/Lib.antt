@@ -1,7 +1,10 @@
 pub mod NameTests
-pub mod Members
-pub mod Literals
-pub mod Reading
+pub mod Trees
+pub mod Whole
+pub mod Entries
 pub mod Built
+pub mod Exports
 pub mod Told
+pub mod Reading
 pub mod Law
+mod Instance

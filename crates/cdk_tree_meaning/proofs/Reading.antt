@@ -1,5 +1,5 @@
 -- The files of an application are read as its stacks.
-use Rattle.std.proofs.Common.{◌≡◌, ◌≤◌, ℕ, suc, List, [], ◌∷◌, ◌++◌, length, map, true, Option, Some, None, Result, Ok, refl, ap, ◌∙◌, arith}
+use Rattle.std.proofs.Common.{◌≡◌, ◌≤◌, ℕ, List, [], ◌∷◌, ◌++◌, length, map, true, Option, Some, None, Result, Ok, refl, ap, ◌∙◌, arith}
 use Rattle.std.specs.Prelude.{codes, if◌then◌else◌}
 use Rattle.std.specs.Str.{is_utf8}
 use Rattle.serde_json.specs.Data.{Data, depth}
@@ -16,7 +16,7 @@ use Rattle.cdk_eval.specs.Reading.{FileFault, ok_then, collected, formed, in_for
 use Rattle.cdk_manifest.specs.ManifestLaws.{artifact_of}
 use Rattle.cdk_meaning.specs.Names.{Each}
 use Rattle.cdk_meaning.proofs.NameLists.{same_bytes}
-use Rattle.cdk_template.specs.Carried.{spelling_of}
+use Rattle.cdk_template.specs.Own.{spelling_of}
 use Rattle.cdk_template.specs.Template.{template_of}
 use Rattle.cdk_tree.specs.Placed.{Placed}
 use Rattle.cdk_tree_meaning.specs.Law.{evaluated, template_name, IsHeld}

@@ -1,21 +1,21 @@
 -- That the files of an application come to what its construct tree means (own).
-use Rattle.std.specs.Prelude.{◌≡◌, ℕ, List, [], map, true, Option, Some, Ok, codes}
+use Rattle.std.specs.Prelude.{◌≡◌, ℕ, List, map, true, Option, Some, Ok, codes}
 use Rattle.std.specs.Str.{is_utf8}
 use Rattle.serde_json.specs.Data.{Data}
 use Rattle.cdk_base.specs.Pretty.{pretty_text}
+use Rattle.cdk_elements.specs.Elements.{name_of}
+use Rattle.cdk_elements.specs.Kinds.{stacks_of}
 use Rattle.cdk_eval.specs.Assembly.{assembly_outcome}
 use Rattle.cdk_eval.specs.Reading.{reading, path_in}
 use Rattle.cdk_eval.specs.Stack.{Stack}
 use Rattle.cdk_eval.specs.Values.{Values}
 use Rattle.cdk_manifest.specs.Manifest.{manifest_of, telling_of, template_file}
 use Rattle.cdk_meaning.specs.Names.{Each}
-use Rattle.cdk_stacks.specs.Claims.{name_findings}
-use Rattle.cdk_template.specs.Carried.{spelling_of}
+use Rattle.cdk_template.specs.Own.{spelling_of}
 use Rattle.cdk_template.specs.Template.{template_of}
 use Rattle.cdk_tree.specs.Placed.{Placed}
-use Rattle.cdk_tree_meaning.specs.Constructs.{name_of}
+use Rattle.cdk_tree_meaning.specs.Checked.{AreChecked}
 use Rattle.cdk_tree_meaning.specs.TreeMeaning.{AgreesWithTree}
-use Rattle.cdk_written.specs.Placed.{AreWell, stacks_of}
 
 -- a stack as it is evaluated
 abbrev pub evaluated : List Placed → ℕ → Stack
@@ -40,6 +40,6 @@ pub record AreHeld (files : List ℕ → Option (List ℕ)) (directory : List �
 -- They are read as the stacks of the tree, and under all values these come to what the tree means.
 abbrev pub TreesKeepMeaning : Type 0
 TreesKeepMeaning =
-    (cs : List Placed) → AreWell cs → name_findings cs ≡ []
+    (cs : List Placed) → AreChecked cs
     → (files : List ℕ → Option (List ℕ)) (directory : List ℕ) → AreHeld files directory cs
     → (reading files directory ≡ Ok (map (evaluated cs) (stacks_of cs))) × ((v : Values) → AgreesWithTree v cs (assembly_outcome v (map (evaluated cs) (stacks_of cs))))

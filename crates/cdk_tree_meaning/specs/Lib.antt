@@ -1,3 +1,3 @@
-pub mod Constructs
+pub mod Checked
 pub mod TreeMeaning
 pub mod Law
