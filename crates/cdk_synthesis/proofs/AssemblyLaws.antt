@@ -5,22 +5,27 @@ use Rattle.std.proofs.lemmas.Slice.Eq.{bytes_eq-Decides}
 use Rattle.std.proofs.lemmas.Str.{is_utf8-from_IsUtf8}
 use Rattle.cdk_base.specs.Marker.{IsMarkerFree}
 use Rattle.cdk_eval.specs.Reading.{path_in}
+use Rattle.cdk_elements.specs.Kinds.{stacks_of}
+use Rattle.cdk_elements.specs.OneStack.{AreOneStack}
 use Rattle.cdk_language.specs.Construct.{Application}
 use Rattle.cdk_manifest.proofs.ArtifactLemmas.{template_file_long}
-use Rattle.cdk_meaning.specs.Names.{AreDistinct, IsIn, Each}
+use Rattle.cdk_meaning.specs.Names.{AreDistinct, Each, IsIn}
+use Rattle.cdk_mentions.proofs.Lists.{each_picked}
 use Rattle.cdk_stacks.specs.Claims.{name_findings}
-use Rattle.cdk_template.specs.Carried.{spelling_of}
+use Rattle.cdk_template.proofs.WholeTemplates.{templates_are_unmarked}
+use Rattle.cdk_template.specs.Markers.{marker_findings}
+use Rattle.cdk_template.specs.Own.{spelling_of}
 use Rattle.cdk_template.specs.Template.{template_of}
-use Rattle.cdk_template.proofs.WholeTemplates.{templates_are_whole}
-use Rattle.cdk_tree.specs.Placed.{Placed, constructs_of}
-use Rattle.cdk_tree_meaning.specs.Law.{AreHeld, IsHeld, evaluated, manifest_document, template_name}
-use Rattle.cdk_tree_meaning.proofs.Law.{trees_keep_meaning_law}
-use Rattle.cdk_written.specs.Placed.{AreWell, stacks_of}
-use Rattle.cdk_synthesis.specs.Assembly.{AllUtf8, IsAssembly, assembly_of, files_in, files_of, manifest_of_constructs, names_of, placed_in, template_of_stack, tree_of, tree_of_application}
+use Rattle.cdk_tokens.specs.Whole.{marking, tokens_of}
+use Rattle.cdk_tree.specs.Placed.{Placed, construct_at, constructs_of, is_stack}
+use Rattle.cdk_tree_meaning.specs.Checked.{AreChecked}
+use Rattle.cdk_tree_meaning.specs.Law.{AreHeld, IsHeld, TreesKeepMeaning, evaluated, template_name}
+use Rattle.cdk_synthesis.specs.Assembly.{AllUtf8, IsAssembly, assembly_of, files_in, files_of, manifest_of_constructs, names_of, placed_in, template_of_stack, tree_of_application}
+use Rattle.cdk_synthesis.specs.Checks.{AreCounted, IsBuilt}
 use Rattle.cdk_synthesis.specs.Headline.{FilesAreNamed, FilesKeepMeaning, Means, StandUnder}
-use Rattle.cdk_synthesis.specs.Passes.{first_fault}
 use Rattle.cdk_synthesis.specs.declared.files.File.{File}
-use Rattle.cdk_synthesis.proofs.Faultless.{IsFaultless, faultless}
+use Rattle.cdk_synthesis.proofs.CheckedTrees.{checked, marked, ordered}
+use Rattle.cdk_synthesis.proofs.Faultless.{AreFaultless, faultless}
 
 -- ---- names
 
@@ -51,23 +56,38 @@ each_long : (cs : List Placed) → name_findings cs ≡ [] → (ns : List ℕ) �
 each_long cs named [] there = tt
 each_long cs named (n ∷ ns) there = (template_file_long cs n named (there n (inl refl)), each_long cs named ns (λ m i. there m (inr i)))
 
-of_application : (a : Application) → AreWell (constructs_of a) → name_findings (constructs_of a) ≡ [] → IsAssembly (files_of a)
-of_application a well named =
+of_application : (a : Application) → AreOneStack (constructs_of a) → name_findings (constructs_of a) ≡ [] → IsAssembly (files_of a)
+of_application a one named =
     let cs = constructs_of a in
     record {
       front = map (template_of_stack cs) (stacks_of cs) ++ tree_of_application a ∷ [];
       last = manifest_of_constructs cs;
       is = one_more (map (template_of_stack cs) (stacks_of cs)) (tree_of_application a) (manifest_of_constructs cs);
       named = refl;
-      apart = names_apart a (stacks_of cs) well.few (each_long cs named (stacks_of cs) (λ n i. i));
+      apart = names_apart a (stacks_of cs) one.few (each_long cs named (stacks_of cs) (λ n i. i));
     }
 
 pub files_are_named_law : FilesAreNamed
-files_are_named_law bytes none =
-    let f = faultless bytes none in
-    subst IsAssembly (sym (ap files_in f.is)) (of_application f.application f.well f.named)
+files_are_named_law bytes settings none =
+    let f = faultless bytes settings none in
+    subst IsAssembly (sym (ap files_in f.is)) (of_application f.application f.built.one f.clean.named)
 
 -- ---- the meaning
+
+of_faultless : (cs : List Placed) → IsBuilt cs → AreFaultless cs → AreCounted cs → AreChecked cs
+of_faultless cs built clean few =
+    checked cs (marking cs) (tokens_of cs)
+    (ordered cs (marking cs) (tokens_of cs) (marked cs (tokens_of cs) built clean.targets clean.contexts refl few) (record { marks = refl; tokens = refl }) clean.cycles)
+    (record { marks = refl; tokens = refl }) clean.sizes clean.named
+
+mapped_each : (cs : List Placed) (ns : List ℕ) → Each (λ n. IsMarkerFree (template_of cs (spelling_of cs) n)) ns → Each (λ s. IsMarkerFree s.template) (map (evaluated cs) ns)
+mapped_each cs [] h = tt
+mapped_each cs (n ∷ ns) h = (h.0, mapped_each cs ns h.1)
+
+all_unmarked : (cs : List Placed) → marker_findings cs ≡ [] → Each (λ s. IsMarkerFree s.template) (map (evaluated cs) (stacks_of cs))
+all_unmarked cs none =
+    mapped_each cs (stacks_of cs)
+    (each_picked (λ n. IsMarkerFree (template_of cs (spelling_of cs) n)) (λ n. is_stack (construct_at cs n).body) (length cs) (λ n within is. templates_are_unmarked cs n none is))
 
 module _ (files : List ℕ → Option (List ℕ)) (directory : List ℕ) where
   held_templates : (cs : List Placed) (ns : List ℕ) (rest : List File) → StandUnder files directory (map (template_of_stack cs) ns ++ rest) → AllUtf8 (map (template_of_stack cs) ns ++ rest)
@@ -89,19 +109,17 @@ module _ (files : List ℕ → Option (List ℕ)) (directory : List ℕ) where
         templates = held_templates cs (stacks_of cs) (tree_of_application a ∷ manifest_of_constructs cs ∷ []) stand utf8;
       }
 
-  all_unmarked : (cs : List Placed) (ns : List ℕ) → AreWell cs → name_findings cs ≡ [] → Each (λ s. IsMarkerFree s.template) (map (evaluated cs) ns)
-  all_unmarked cs [] well named = tt
-  all_unmarked cs (n ∷ ns) well named = ((templates_are_whole cs n well named).unmarked, all_unmarked cs ns well named)
-
-  means : (a : Application) → AreWell (constructs_of a) → name_findings (constructs_of a) ≡ [] → StandUnder files directory (files_of a) → AllUtf8 (files_of a) → Means files directory (constructs_of a)
-  means a well named stand utf8 =
+  means : TreesKeepMeaning → (a : Application) → AreChecked (constructs_of a) → marker_findings (constructs_of a) ≡ [] → StandUnder files directory (files_of a) → AllUtf8 (files_of a) → Means files directory (constructs_of a)
+  means keep a checked unmarked stand utf8 =
       let cs = constructs_of a in
-      let law = trees_keep_meaning_law cs well named files directory (all_held a stand utf8) in
-      record { stacks = map (evaluated cs) (stacks_of cs); read = law.0; unmarked = all_unmarked cs (stacks_of cs) well named; agrees = law.1 }
+      let law = keep cs checked files directory (all_held a stand utf8) in
+      record { stacks = map (evaluated cs) (stacks_of cs); read = law.0; unmarked = all_unmarked cs unmarked; agrees = law.1 }
 
-pub files_keep_meaning_law : FilesKeepMeaning
-files_keep_meaning_law bytes none utf8 files directory stand =
-    let f = faultless bytes none in
-    let same : assembly_of bytes ≡ files_of f.application = ap files_in f.is in
+pub files_keep_meaning_law : TreesKeepMeaning → FilesKeepMeaning
+files_keep_meaning_law keep bytes settings none few utf8 files directory stand =
+    let f = faultless bytes settings none in
+    let same : assembly_of bytes settings ≡ files_of f.application = ap files_in f.is in
+    let P : Option Application → Type 0 = λ o. AreCounted (placed_in o) in
+    let checked = of_faultless (constructs_of f.application) f.built f.clean (subst P f.is few) in
     subst (Means files directory) (sym (ap placed_in f.is))
-    (means files directory f.application f.well f.named (subst (StandUnder files directory) same stand) (subst AllUtf8 same utf8))
+    (means files directory keep f.application checked f.clean.unmarked (subst (StandUnder files directory) same stand) (subst AllUtf8 same utf8))

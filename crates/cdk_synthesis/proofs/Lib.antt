@@ -1,6 +1,10 @@
 pub mod FaultLemmas
+pub mod BuiltTrees
+pub mod CheckedTrees
 pub mod Faultless
-pub mod AssemblyLaws
+pub mod OwnSpellings
+pub mod StackLemmas
 pub mod ValueLemmas
 pub mod TreeFileLemmas
 pub mod FileLemmas
+pub mod AssemblyLaws

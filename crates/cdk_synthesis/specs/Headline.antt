@@ -1,6 +1,7 @@
 -- That the files of an application come to what its construct tree means, and how they are named (own).
 use Rattle.std.specs.Prelude.{◌≡◌, ℕ, List, Option, Some, None, Ok}
 use Rattle.cdk_base.specs.Marker.{IsMarkerFree}
+use Rattle.cdk_base.specs.declared.Setting.{Setting}
 use Rattle.cdk_eval.specs.Assembly.{assembly_outcome}
 use Rattle.cdk_eval.specs.Reading.{reading, path_in}
 use Rattle.cdk_eval.specs.Stack.{Stack}
@@ -9,6 +10,7 @@ use Rattle.cdk_meaning.specs.Names.{Each}
 use Rattle.cdk_tree.specs.Placed.{Placed}
 use Rattle.cdk_tree_meaning.specs.TreeMeaning.{AgreesWithTree}
 use Rattle.cdk_synthesis.specs.Assembly.{AllUtf8, IsAssembly, assembly_of, tree_of}
+use Rattle.cdk_synthesis.specs.Checks.{AreCounted}
 use Rattle.cdk_synthesis.specs.Passes.{first_fault}
 use Rattle.cdk_synthesis.specs.declared.files.File.{File}
 
@@ -27,9 +29,9 @@ StandUnder files directory list = Each (λ f. files (path_in directory f.name) �
 
 abbrev pub FilesKeepMeaning : Type 0
 FilesKeepMeaning =
-    (bytes : List ℕ) → first_fault bytes ≡ None → AllUtf8 (assembly_of bytes)
-    → (files : List ℕ → Option (List ℕ)) (directory : List ℕ) → StandUnder files directory (assembly_of bytes)
-    → Means files directory (tree_of bytes)
+    (bytes : List ℕ) (settings : List Setting) → first_fault bytes settings ≡ None → AreCounted (tree_of bytes settings) → AllUtf8 (assembly_of bytes settings)
+    → (files : List ℕ → Option (List ℕ)) (directory : List ℕ) → StandUnder files directory (assembly_of bytes settings)
+    → Means files directory (tree_of bytes settings)
 
 abbrev pub FilesAreNamed : Type 0
-FilesAreNamed = (bytes : List ℕ) → first_fault bytes ≡ None → IsAssembly (assembly_of bytes)
+FilesAreNamed = (bytes : List ℕ) (settings : List Setting) → first_fault bytes settings ≡ None → IsAssembly (assembly_of bytes settings)

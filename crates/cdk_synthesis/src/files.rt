@@ -1,26 +1,26 @@
-// The files of an assembly, made of a tree and its names.
-ghost use Rattle.std.specs.Prelude.{◌≡◌, ◌≤◌, ◌<◌, ◌++◌, ◌∷◌, [], ℕ, List, length, map, true, false, IfOk, OnOk};
+// The files of an assembly.
+ghost use Rattle.std.specs.Prelude.{◌≡◌, ◌≤◌, ◌<◌, List, length, true, false, IfOk, OnOk};
 ghost use Rattle.std.specs.Str.{IsUtf8};
 ghost use Rattle.serde_json.specs.Data.{depth};
 ghost use Rattle.serde_json.specs.Read.{max_depth};
 ghost use Rattle.serde_json.specs.View.{view};
 ghost use Rattle.serde_json.specs.Written.{has_float};
 ghost use Rattle.cdk_base.specs.Pretty.{pretty_text};
-ghost use Rattle.cdk_language.specs.Construct.{Application, kind_view};
+ghost use Rattle.cdk_language.specs.Construct.{Application};
 ghost use Rattle.cdk_stacks.specs.Made.{AreNamesOf};
-ghost use Rattle.cdk_tree.specs.Placed.{construct_at, constructs_of, is_stack as spec_is_stack};
-ghost use Rattle.cdk_tree.specs.TreeView.{constructs};
-ghost use Rattle.cdk_written.specs.Placed.{stacks_of};
-ghost use Rattle.cdk_synthesis.specs.Assembly.{AllUtf8, manifest_of_constructs, template_of_stack, tree_of_application, with_template};
-ghost use Rattle.cdk_synthesis.specs.Checks.{AreFilesOf, IsReady};
+ghost use Rattle.cdk_template.specs.Sources.{constructs_in};
+ghost use Rattle.cdk_tree.specs.Placed.{Placed, construct_at, constructs_of, is_stack as spec_is_stack};
+ghost use Rattle.cdk_tree_meaning.specs.Law.{template_name as spec_template_name};
+ghost use Rattle.cdk_synthesis.specs.Assembly.{AllUtf8, file_of as spec_file_of, manifest_of_constructs, tree_of_application};
+ghost use Rattle.cdk_synthesis.specs.Files.{AreTemplates, FilesAnswer, IsTemplateFile, PutsRest, PutsTemplate};
+ghost use Rattle.cdk_synthesis.specs.Values.{CanBeMade};
 
+use crate::stacks::is_stack;
 use crate::values::values_of;
 use cdk_base::{List, Text, Value, pretty_bytes};
-use cdk_language::Kind;
 use cdk_manifest::{manifest, template_name, tree_file};
-use cdk_stacks::Names;
-use cdk_template::template;
-use cdk_tree::{NodeId, Tree};
+use cdk_template::{Sources, template};
+use cdk_tree::{NodeId, PassError};
 use std::alloc::{AllocError, Global};
 
 /// A file of an assembly. Its name is relative to the assembly's directory.
@@ -43,97 +43,128 @@ fn file_of(alloc: Global, name: Text, value: &Value) -> Result<File, AllocError>
     })
 }
 
-fn template_of(alloc: Global, tree: &Tree, names: &Names, stack: NodeId) -> Result<File, AllocError>
-    requires within { stack < length (constructs tree.now) }
-    requires names { AreNamesOf names.now (constructs tree.now) }
-    requires ready { IsReady (constructs tree.now) }
-    ensures file { IfOk result (λ file. file ≡ template_of_stack (constructs tree.now) stack) }
+fn named_template(
+    sources: &Sources<'_>,
+    stack: NodeId,
+    template: &Value,
+) -> Result<File, AllocError>
+    requires no_float { has_float (view template.now) ≡ false }
+    requires shallow { depth (view template.now) ≤ max_depth }
+    ensures file { IfOk result (λ file. (cs : List Placed) → AreNamesOf sources.now.names.now cs → file ≡ spec_file_of (spec_template_name cs stack) (view template.now)) }
     ensures utf8 { IfOk result (λ file. IsUtf8 file.bytes) }
 {
-    let name = template_name(alloc, names, stack)?;
-    let value = template(alloc, tree, names, stack)?;
-    file_of(alloc, name, &value)
+    let name = template_name(sources.alloc, sources.names, stack)?;
+    file_of(sources.alloc, name, template)
 }
 
-fn is_stack(kind: &Kind) -> bool
-    ensures { result ≡ spec_is_stack (kind_view kind.now) }
+fn template_of(sources: &Sources<'_>, stack: NodeId) -> Result<File, PassError>
+    requires within { stack < length (constructs_in sources.now) }
+    requires stack { spec_is_stack (construct_at (constructs_in sources.now) stack).body ≡ true }
+    requires made { CanBeMade sources.now stack }
+    ensures file { IsTemplateFile result (constructs_in sources.now) stack }
+    ensures utf8 { IfOk result (λ file. IsUtf8 file.bytes) }
 {
-    matches!(kind, Kind::Stack { .. })
+    let template = match template(sources, stack) {
+        Ok(template) => template,
+        Err(error) => return Err(error),
+    };
+    match named_template(sources, stack, &template) {
+        Ok(file) => Ok(file),
+        Err(_) => Err(PassError::Memory),
+    }
 }
 
 /// Appends the template of the construct where it is a stack.
 fn put_template(
-    alloc: Global,
-    tree: &Tree,
-    names: &Names,
+    sources: &Sources<'_>,
+    stack: NodeId,
     at: NodeId,
     files: &mut List<File>,
-) -> Result<(), AllocError>
-    requires within { at < length (constructs tree.now) }
-    requires names { AreNamesOf names.now (constructs tree.now) }
-    requires ready { IsReady (constructs tree.now) }
-    ensures files { OnOk result (files.new ≡ with_template (constructs tree.now) at files.old) }
+) -> Result<(), PassError>
+    requires within { at < length (constructs_in sources.now) }
+    requires made { CanBeMade sources.now stack }
+    ensures files { PutsTemplate result (constructs_in sources.now) at files.old files.new }
     ensures utf8 { OnOk result (AllUtf8 files.old → AllUtf8 files.new) }
 {
-    if !is_stack(&tree.node(at).kind) {
+    if !is_stack(&sources.tree.node(at).kind) {
         return Ok(());
     }
-    let template = template_of(alloc, tree, names, at)?;
-    files.push(template)?;
+    let file = match template_of(sources, at) {
+        Ok(file) => file,
+        Err(error) => return Err(error),
+    };
+    match files.push(file) {
+        Ok(()) => Ok(()),
+        Err(_) => Err(PassError::Memory),
+    }
+}
+
+// The templates of all stacks, in walk order, or the first fault of one.
+fn templates_of(sources: &Sources<'_>, stack: NodeId) -> Result<List<File>, PassError>
+    requires made { CanBeMade sources.now stack }
+    ensures files { AreTemplates result (constructs_in sources.now) }
+    ensures utf8 { IfOk result AllUtf8 }
+{
+    let mut files = List::new(sources.alloc);
+    for number in 0..sources.tree.len() {
+        let Some(at) = sources.tree.id(number) else {
+            unreachable!()
+        };
+        if let Err(error) = put_template(sources, stack, at, &mut files) {
+            return Err(error);
+        }
+    }
+    Ok(files)
+}
+
+fn tree_of(sources: &Sources<'_>, stack: NodeId) -> Result<File, AllocError>
+    requires made { CanBeMade sources.now stack }
+    ensures file { IfOk result (λ file. (a : Application) → constructs_in sources.now ≡ constructs_of a → file ≡ tree_of_application a) }
+    ensures utf8 { IfOk result (λ file. IsUtf8 file.bytes) }
+{
+    let name = Text::new(sources.alloc, "tree.json")?;
+    let values = values_of(sources, stack)?;
+    let value = tree_file(sources.alloc, sources.tree, values.as_slice())?;
+    file_of(sources.alloc, name, &value)
+}
+
+fn manifest_of(sources: &Sources<'_>, stack: NodeId) -> Result<File, AllocError>
+    requires made { CanBeMade sources.now stack }
+    ensures file { IfOk result (λ file. file ≡ manifest_of_constructs (constructs_in sources.now)) }
+    ensures utf8 { IfOk result (λ file. IsUtf8 file.bytes) }
+{
+    let name = Text::new(sources.alloc, "manifest.json")?;
+    let value = manifest(sources.alloc, sources.tree, sources.names, NodeId::ROOT)?;
+    file_of(sources.alloc, name, &value)
+}
+
+// Appends `tree.json` and `manifest.json`.
+fn put_rest(sources: &Sources<'_>, stack: NodeId, files: &mut List<File>) -> Result<(), AllocError>
+    requires made { CanBeMade sources.now stack }
+    ensures files { OnOk result (PutsRest (constructs_in sources.now) files.old files.new) }
+    ensures utf8 { OnOk result (AllUtf8 files.old → AllUtf8 files.new) }
+{
+    let tree_file = tree_of(sources, stack)?;
+    let manifest = manifest_of(sources, stack)?;
+    files.push(tree_file)?;
+    files.push(manifest)?;
     Ok(())
 }
 
-// The templates of all stacks, in walk order.
-fn templates_of(alloc: Global, tree: &Tree, names: &Names) -> Result<List<File>, AllocError>
-    requires names { AreNamesOf names.now (constructs tree.now) }
-    requires ready { IsReady (constructs tree.now) }
-    ensures files { IfOk result (λ files. files ≡ map (template_of_stack (constructs tree.now)) (stacks_of (constructs tree.now))) }
+/// The files of the assembly of one stack: its template, `tree.json`, and last `manifest.json`.
+///
+/// `MarkerLeft` at the stack where the beginning of a marker is left in its template; else an error only where no memory is found.
+pub(crate) fn files_of(sources: &Sources<'_>, stack: NodeId) -> Result<List<File>, PassError>
+    requires made { CanBeMade sources.now stack }
+    ensures files { FilesAnswer result (constructs_in sources.now) }
     ensures utf8 { IfOk result AllUtf8 }
 {
-    let mut files = List::new(alloc);
-    for number in 0..tree.len() {
-        let Some(at) = tree.id(number) else {
-            unreachable!()
-        };
-        put_template(alloc, tree, names, at, &mut files)?;
+    let mut files = match templates_of(sources, stack) {
+        Ok(files) => files,
+        Err(error) => return Err(error),
+    };
+    match put_rest(sources, stack, &mut files) {
+        Ok(()) => Ok(files),
+        Err(_) => Err(PassError::Memory),
     }
-    Ok(files)
-}
-
-fn tree_of(alloc: Global, tree: &Tree) -> Result<File, AllocError>
-    requires ready { IsReady (constructs tree.now) }
-    ensures file { IfOk result (λ file. (a : Application) → constructs tree.now ≡ constructs_of a → file ≡ tree_of_application a) }
-    ensures utf8 { IfOk result (λ file. IsUtf8 file.bytes) }
-{
-    let name = Text::new(alloc, "tree.json")?;
-    let values = values_of(alloc, tree)?;
-    let value = tree_file(alloc, tree, values.as_slice())?;
-    file_of(alloc, name, &value)
-}
-
-fn manifest_of(alloc: Global, tree: &Tree, names: &Names) -> Result<File, AllocError>
-    requires names { AreNamesOf names.now (constructs tree.now) }
-    requires ready { IsReady (constructs tree.now) }
-    ensures file { IfOk result (λ file. file ≡ manifest_of_constructs (constructs tree.now)) }
-    ensures utf8 { IfOk result (λ file. IsUtf8 file.bytes) }
-{
-    let name = Text::new(alloc, "manifest.json")?;
-    let value = manifest(alloc, tree, names, NodeId::ROOT)?;
-    file_of(alloc, name, &value)
-}
-
-/// The files of the assembly of a tree: the stacks' templates, `tree.json`, and last `manifest.json`. Fails where no memory
-/// is found.
-pub(crate) fn files_of(alloc: Global, tree: &Tree, names: &Names) -> Result<List<File>, AllocError>
-    requires names { AreNamesOf names.now (constructs tree.now) }
-    requires ready { IsReady (constructs tree.now) }
-    ensures files { IfOk result (AreFilesOf (constructs tree.now)) }
-    ensures utf8 { IfOk result AllUtf8 }
-{
-    let mut files = templates_of(alloc, tree, names)?;
-    let tree_file = tree_of(alloc, tree)?;
-    let manifest = manifest_of(alloc, tree, names)?;
-    files.push(tree_file)?;
-    files.push(manifest)?;
-    Ok(files)
 }
