@@ -1,9 +1,11 @@
-//! Runs the tool over files and streams in memory: applications that `synth` refuses, by their fault, and whole runs of
-//! both commands. It prints each case that comes out otherwise, and how many there were.
+//! Runs the tool over files and streams in memory: applications that `synth` refuses, by their fault; expressions, by what
+//! a template holds for them and by what that comes to; and whole runs of both commands. It prints each case that comes
+//! out otherwise, and how many there were.
 #![tactic(auto)]
 
 mod applications;
 mod content;
+mod expressions;
 mod members;
 mod outcome;
 mod runs;
@@ -11,6 +13,7 @@ mod words;
 mod world;
 
 use crate::applications::Applications;
+use crate::expressions::Expressions;
 use crate::runs::try_runs;
 use cdk_outside::{DiskFiles, Files, StdSink};
 use cdk_tally::{Tally, Trouble, print, try_group};
@@ -19,6 +22,8 @@ use std::process::ExitCode;
 
 fn try_groups<F: Files>(alloc: Global, source: &mut F, tally: &mut Tally) -> Result<(), Trouble> {
     try_group(alloc, source, &Applications, tally)?;
+    let expressions = Expressions::new(alloc, source)?;
+    try_group(alloc, source, &expressions, tally)?;
     try_runs(alloc, source, tally)
 }
 

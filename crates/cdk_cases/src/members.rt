@@ -1,6 +1,7 @@
 // Members of the cases. `Data` where one is missing or has another kind.
 use cdk_base::{Map, Value};
 use cdk_tally::Trouble;
+use std::alloc::Global;
 
 /// Any member.
 pub fn member<'a>(case: &'a Value, key: &str) -> Result<&'a Value, Trouble> {
@@ -27,4 +28,12 @@ pub fn object_member<'a>(case: &'a Value, key: &str) -> Result<&'a Map, Trouble>
 /// The items of an array.
 pub fn items_of(value: &Value) -> Result<&Vec<Value>, Trouble> {
     value.as_array().ok_or(Trouble::Data)
+}
+
+/// The value of a JSON text. `Data` where it is none.
+pub fn parsed(alloc: Global, text: &str) -> Result<Value, Trouble> {
+    match Value::from_str(alloc, text) {
+        Ok(value) => Ok(value),
+        Err(_) => Err(Trouble::Data),
+    }
 }

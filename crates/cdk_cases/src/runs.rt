@@ -1,6 +1,6 @@
 // Whole runs of the tool: the status, both streams, and what stands afterwards.
 use crate::content::content;
-use crate::members::{items_of, member, object_member, text_member};
+use crate::members::{items_of, member, object_member, parsed, text_member};
 use crate::outcome::miss;
 use crate::words::words_of;
 use crate::world::World;
@@ -65,9 +65,18 @@ fn world_of<F: Files>(
     Ok(world)
 }
 
-fn run_case(alloc: Global, case: &Value, world: &mut World) -> Result<Status, Trouble> {
-    let words = words_of(alloc, case)?;
+// Runs the words that a case has by the key.
+fn run_words(alloc: Global, case: &Value, key: &str, world: &mut World) -> Result<Status, Trouble> {
+    let words = words_of(alloc, case, key)?;
     Ok(world.run(alloc, words.as_slice()))
+}
+
+// Runs the words of a case, and first those that come before them, where it has any.
+fn run_case(alloc: Global, case: &Value, world: &mut World) -> Result<Status, Trouble> {
+    if case.get("before").is_some() {
+        run_words(alloc, case, "before", world)?;
+    }
+    run_words(alloc, case, "words", world)
 }
 
 // What is wrong with a run of the case, or an empty text.
@@ -148,16 +157,13 @@ fn try_cases<F: Files>(
 
 fn cases_of<F: Files>(alloc: Global, source: &mut F) -> Result<Value, Trouble> {
     let text = text_of_file(alloc, source, "runs.json")?;
-    match Value::from_str(alloc, text.as_str()) {
-        Ok(cases) => Ok(cases),
-        Err(_) => Err(Trouble::Data),
-    }
+    parsed(alloc, text.as_str())
 }
 
 /// Tries each case of `runs.json`, and ends the group. A case is an object with `name`, `words`, `files`, `status`, `out`,
 /// `err` (empty where absent), `then` (files that stand afterwards, null for absent ones), and where it says so
-/// `directory` (whether `out` stands), `room`, `failingFiles`, `failingOut`, `failingErr` (numbers of calls), and
-/// `prefixesOf` (a file to cut at each place).
+/// `before` (the words of a run before it), `directory` (whether `out` stands), `room`, `failingFiles`, `failingOut`,
+/// `failingErr` (numbers of calls), and `prefixesOf` (a file to cut at each place).
 pub fn try_runs<F: Files>(alloc: Global, source: &mut F, tally: &mut Tally) -> Result<(), Trouble> {
     let cases = cases_of(alloc, source)?;
     try_cases(alloc, source, &cases, tally)?;

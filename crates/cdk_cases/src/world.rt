@@ -2,14 +2,14 @@
 use crate::members::items_of;
 use cdk_base::{List, Text, Value};
 use cdk_outside::{MemFiles, MemSink};
-use cdk_tally::Trouble;
+use cdk_tally::{Trouble, texts_of};
 use cdk_tool::{Status, run};
 use std::alloc::Global;
 
 // Room for the directories and the bytes that a run writes, where its case gives none.
 const DIRECTORIES: usize = 10;
 
-const ROOM: usize = 6000;
+const ROOM: usize = 20_000;
 
 /// The files and both streams of one run.
 #[derive(Drop)]
@@ -52,6 +52,13 @@ fn files(alloc: Global, case: &Value) -> Result<MemFiles, Trouble> {
     Ok(MemFiles::new(alloc, failing, DIRECTORIES, room_of(case))?)
 }
 
+// The fault in the one line of errors.
+fn fault_in(line: &[u8]) -> Option<&str> {
+    let line = str::from_utf8(line).ok()?;
+    let fault = line.strip_prefix("cdkcore: error ")?;
+    fault.strip_suffix('\n')
+}
+
 impl World {
     /// No files yet, with the room and the failing calls that a case gives.
     pub fn new(alloc: Global, case: &Value) -> Result<Self, Trouble> {
@@ -61,8 +68,35 @@ impl World {
         Ok(World { files, out, err })
     }
 
+    /// The application in `app.json`, and ample room.
+    pub fn of_application(alloc: Global, application: &str) -> Result<Self, Trouble> {
+        let mut world = World::new(alloc, &Value::Null)?;
+        world.files.add("app.json", application.as_bytes())?;
+        Ok(world)
+    }
+
     /// Runs the tool over it with these words.
     pub fn run(&mut self, alloc: Global, words: &[Text]) -> Status {
         run(alloc, words, &mut self.files, &mut self.out, &mut self.err)
+    }
+
+    /// Runs `synth app.json out`.
+    pub fn synth(&mut self, alloc: Global) -> Result<Status, Trouble> {
+        let words = texts_of(alloc, &["synth", "app.json", "out"])?;
+        Ok(self.run(alloc, words.as_slice()))
+    }
+
+    /// Runs `eval out v.json`.
+    pub fn eval(&mut self, alloc: Global) -> Result<Status, Trouble> {
+        let words = texts_of(alloc, &["eval", "out", "v.json"])?;
+        Ok(self.run(alloc, words.as_slice()))
+    }
+
+    /// The fault that a run of `synth` with this status was refused with, nothing being written.
+    pub fn refusal(&self, status: Status) -> &str {
+        if status.number() != 1 || self.files.has_dir("out") {
+            return "no refusal";
+        }
+        fault_in(self.err.bytes()).unwrap_or("another line")
     }
 }

@@ -5,17 +5,19 @@ use Rattle.std.specs.Ordering.{nat_cmp}
 use Rattle.std.specs.Cmp.Lexicographic.{slice_cmp}
 use Rattle.std.specs.FinMap.{FinMap, get}
 use Rattle.std.proofs.lemmas.Slice.Eq.{bytes_eq-Decides}
+use Rattle.cdk_base.specs.declared.Setting.{Setting}
 use Rattle.cdk_eval.specs.Reach.{is_among}
 use Rattle.cdk_meaning.specs.Names.{AreDistinct, Each}
 use Rattle.cdk_meaning.proofs.NameLists.{neither, same_bytes}
 use Rattle.cdk_outside.specs.Outside.{Contents, Holds}
-use Rattle.cdk_synthesis.specs.Assembly.{AllUtf8, IsAssembly, assembly_of, names_of}
-use Rattle.cdk_synthesis.specs.Headline.{StandUnder}
+use Rattle.cdk_synthesis.specs.Assembly.{AllUtf8, assembly_of, names_of, tree_of}
+use Rattle.cdk_synthesis.specs.Checks.{AreCounted}
+use Rattle.cdk_synthesis.specs.Headline.{FilesKeepMeaning, StandUnder}
 use Rattle.cdk_synthesis.specs.Passes.{first_fault}
 use Rattle.cdk_synthesis.specs.declared.files.File.{File}
-use Rattle.cdk_synthesis.proofs.AssemblyLaws.{files_are_named_law, files_keep_meaning_law}
+use Rattle.cdk_synthesis.proofs.AssemblyLaws.{files_are_named_law}
 use Rattle.cdk_write.specs.Standing.{left_by, left_by_all}
-use Rattle.cdk_write.specs.Steps.{WriteStep, put, remove, path_in, files_after_all}
+use Rattle.cdk_write.specs.Steps.{WriteStep, remove, path_in, files_after_all}
 use Rattle.cdk_write.proofs.StandingLemmas.{after_all, all_is, get_after_all, none_after_all}
 use Rattle.cdk_tool.specs.Assembly.{put_in, steps_of}
 use Rattle.cdk_tool.specs.Headline.{MeaningIsKept}
@@ -70,16 +72,16 @@ stand directory files m apart =
 
 -- ---- the meaning
 
-kept_at : (app directory bytes : List ℕ) (old : Contents) → Holds old app bytes → first_fault bytes ≡ None → AllUtf8 (assembly_of bytes) → MeaningIsKept app directory old (files_after_all (steps_of directory (assembly_of bytes)) old)
-kept_at app directory bytes None held none utf8 = let P : Contents → Type 0 = λ c. MeaningIsKept app directory None c in subst P (sym (none_after_all (steps_of directory (assembly_of bytes)))) tt
-kept_at app directory bytes (Some m) held none utf8 =
-    let steps = steps_of directory (assembly_of bytes) in
-    let named = files_are_named_law bytes none in
-    let means = files_keep_meaning_law bytes none utf8 (get (after_all steps m)) directory (stand directory (assembly_of bytes) m named.apart) in
-    let P : Contents → Type 0 = λ c. MeaningIsKept app directory (Some m) c in
+kept_at : FilesKeepMeaning → (app directory bytes : List ℕ) (settings : List Setting) (old : Contents) → Holds old app bytes → first_fault bytes settings ≡ None → AreCounted (tree_of bytes settings) → AllUtf8 (assembly_of bytes settings) → MeaningIsKept app directory settings old (files_after_all (steps_of directory (assembly_of bytes settings)) old)
+kept_at keep app directory bytes settings None held none counted utf8 = let P : Contents → Type 0 = λ c. MeaningIsKept app directory settings None c in subst P (sym (none_after_all (steps_of directory (assembly_of bytes settings)))) tt
+kept_at keep app directory bytes settings (Some m) held none counted utf8 =
+    let steps = steps_of directory (assembly_of bytes settings) in
+    let named = files_are_named_law bytes settings none in
+    let means = keep bytes settings none counted utf8 (get (after_all steps m)) directory (stand directory (assembly_of bytes settings) m named.apart) in
+    let P : Contents → Type 0 = λ c. MeaningIsKept app directory settings (Some m) c in
     subst P (sym (all_is steps m)) (bytes, held, means)
 
 -- the files that stand after a synthesis mean what the application means
-pub meaning_is_kept : (app directory bytes : List ℕ) (old new : Contents) → Holds old app bytes → first_fault bytes ≡ None → AllUtf8 (assembly_of bytes) → new ≡ files_after_all (steps_of directory (assembly_of bytes)) old → MeaningIsKept app directory old new
-meaning_is_kept app directory bytes old new held none utf8 is =
-    let P : Contents → Type 0 = λ c. MeaningIsKept app directory old c in subst P (sym is) (kept_at app directory bytes old held none utf8)
+pub meaning_is_kept : FilesKeepMeaning → (app directory bytes : List ℕ) (settings : List Setting) (old new : Contents) → Holds old app bytes → first_fault bytes settings ≡ None → AreCounted (tree_of bytes settings) → AllUtf8 (assembly_of bytes settings) → new ≡ files_after_all (steps_of directory (assembly_of bytes settings)) old → MeaningIsKept app directory settings old new
+meaning_is_kept keep app directory bytes settings old new held none counted utf8 is =
+    let P : Contents → Type 0 = λ c. MeaningIsKept app directory settings old c in subst P (sym is) (kept_at keep app directory bytes settings old held none counted utf8)

@@ -2,6 +2,7 @@
 use Rattle.std.proofs.Common.{◌≡◌, ◌⊎◌, inl, inr, ℕ, zero, suc, ◌<◌, List, [], ◌∷◌, ◌++◌, length, map, take, true, false, Option, Some, None, if◌then◌else◌, refl, sym, ap, ◌∙◌, subst, arith}
 use Rattle.std.specs.Prelude.{◌||◌, slice_get, unwrap_or, codes, bytes_eq}
 use Rattle.std.specs.FinMap.{get}
+use Rattle.cdk_base.specs.declared.Setting.{Setting}
 use Rattle.cdk_eval.specs.Reach.{is_among}
 use Rattle.cdk_meaning.specs.Names.{AreDistinct}
 use Rattle.cdk_meaning.proofs.NameLists.{apart_back, neither, same_bytes}
@@ -88,8 +89,8 @@ of_assembly directory files k (Some m) (Some n) old_dirs dirs failed a stop =
     (at_step directory a.last a.named a.front (not_last (codes "manifest.json") a.front a.last a.named (subst D a.is a.apart)) k (get m (at_manifest directory)) (get n (at_manifest directory)) there.step there.is
     (stands_at _ k (Some m) (Some n) old_dirs dirs failed there (at_manifest directory))))
 
-pub manifest_stands : (directory bytes : List ℕ) (k : ℕ) (old new : Contents) (old_dirs dirs : Directories) (failed : Option (List ℕ)) → first_fault bytes ≡ None → StoppedAt (steps_of directory (assembly_of bytes)) k old new old_dirs dirs failed → ManifestStands directory (assembly_of bytes) old new
-manifest_stands directory bytes k old new old_dirs dirs failed none stop = of_assembly directory (assembly_of bytes) k old new old_dirs dirs failed (files_are_named_law bytes none) stop
+pub manifest_stands : (directory bytes : List ℕ) (settings : List Setting) (k : ℕ) (old new : Contents) (old_dirs dirs : Directories) (failed : Option (List ℕ)) → first_fault bytes settings ≡ None → StoppedAt (steps_of directory (assembly_of bytes settings)) k old new old_dirs dirs failed → ManifestStands directory (assembly_of bytes settings) old new
+manifest_stands directory bytes settings k old new old_dirs dirs failed none stop = of_assembly directory (assembly_of bytes settings) k old new old_dirs dirs failed (files_are_named_law bytes settings none) stop
 
 -- the step of an index, from two accounts of it
 step_is : (s t : WriteStep) → Some s ≡ Some t → t ≡ s

@@ -1,6 +1,7 @@
 -- What shows each answer of `synth`: counts, kept names, files, directories and lines (own).
 use Rattle.std.specs.Prelude.{◌≡◌, ◌⊎◌, ◌<◌, ℕ, ⊤, List, [], ◌∷◌, length, take, Option, Some, None, IfSome, codes}
 use Rattle.std.specs.FinMap.{get}
+use Rattle.cdk_base.specs.declared.Setting.{Setting}
 use Rattle.cdk_base.specs.declared.code.Code.{Code}
 use Rattle.cdk_base.specs.declared.fault.Fault.{Fault}
 use Rattle.cdk_base.specs.declared.fault.Fault.TheVariants.{App}
@@ -18,23 +19,29 @@ use Rattle.cdk_tool.specs.declared.top.Refusal.TheVariants.{Unread, Faulty, NoRo
 use Rattle.cdk_tool.specs.declared.status.Status.{Status}
 use Rattle.cdk_tool.specs.declared.status.Status.TheVariants.{AppFault, ReadFault, NoMemory}
 
--- the application, where told, has this fault first
-abbrev pub HasFault : Contents → List ℕ → Fault → Type 0
-HasFault files app fault = IfSome files (λ m. (bytes : List ℕ) × (get m app ≡ Some bytes) × IsFaultOf (first_fault bytes) fault)
+-- the application, where told, has this fault first with these settings
+abbrev pub HasFault : Contents → List ℕ → List Setting → Fault → Type 0
+HasFault files app settings fault = IfSome files (λ m. (bytes : List ℕ) × (get m app ≡ Some bytes) × IsFaultOf (first_fault bytes settings) fault)
 
 -- what a refusal before the first write shows: a read that failed, a fault, or nothing where memory is wanting
-abbrev pub IsCause : Refusal → Contents → List ℕ → ℕ → ℕ → Option (List ℕ) → Type 0
-IsCause Unread files app before now failed = (Rose before now) × IfSome failed (λ n. n ≡ app)
-IsCause (Faulty fault) files app before now failed = HasFault files app fault
-IsCause NoRoom files app before now failed = ⊤
+abbrev pub IsCause : Refusal → Contents → List ℕ → List Setting → ℕ → ℕ → Option (List ℕ) → Type 0
+IsCause Unread files app settings before now failed = (Rose before now) × IfSome failed (λ n. n ≡ app)
+IsCause (Faulty fault) files app settings before now failed = HasFault files app settings fault
+IsCause NoRoom files app settings before now failed = ⊤
 
--- The files of the application without fault are written whole: those of before, the manifest taken out and the assembly's
+-- what the refusal of an application's bytes shows: its fault, or nothing where memory is wanting
+abbrev pub IsUnsynthesised : List ℕ → List Setting → Refusal → Type 0
+IsUnsynthesised bytes settings Unread = ⊥
+IsUnsynthesised bytes settings (Faulty fault) = IsFaultOf (first_fault bytes settings) fault
+IsUnsynthesised bytes settings NoRoom = ⊤
+
+-- The files of the application, without fault with these settings, are written whole: those of before, the manifest taken out and the assembly's
 -- set, and the directories of before with the assembly's.
-abbrev pub IsDone : List ℕ → List ℕ → Contents → Contents → Directories → Directories → Type 0
-IsDone app directory old new old_directories directories =
-    (bytes : List ℕ) × Holds old app bytes × (first_fault bytes ≡ None)
-    × (new ≡ files_after_all (steps_of directory (assembly_of bytes)) old)
-    × (directories ≡ directories_after_all (steps_of directory (assembly_of bytes)) old_directories)
+abbrev pub IsDone : List ℕ → List ℕ → List Setting → Contents → Contents → Directories → Directories → Type 0
+IsDone app directory settings old new old_directories directories =
+    (bytes : List ℕ) × Holds old app bytes × (first_fault bytes settings ≡ None)
+    × (new ≡ files_after_all (steps_of directory (assembly_of bytes settings)) old)
+    × (directories ≡ directories_after_all (steps_of directory (assembly_of bytes settings)) old_directories)
 
 -- the bytes of the assembly's last file, its manifest
 abbrev pub manifest_bytes : List File → List ℕ
@@ -50,19 +57,19 @@ abbrev pub ManifestStands : List ℕ → List File → Contents → Contents →
 ManifestStands directory files old new =
     IfSome old (λ m. IfSome new (λ n. IsNoManifest (get m (path_in directory (codes "manifest.json"))) (get n (path_in directory (codes "manifest.json"))) (manifest_bytes files)))
 
--- The application has no fault, and its writing stopped at a step whose path the line names. The steps are the making of the
+-- The application has no fault with these settings, and its writing stopped at a step whose path the line names. The steps are the making of the
 -- directory, the removal of the manifest, and the files in order: so from the third step on, the files before the last
 -- one that was tried are whole.
-pub record IsCut (app directory : List ℕ) (old new : Contents) (old_directories directories : Directories) (failed : Option (List ℕ)) (old_err err : Option (List ℕ)) (old_faults faults : ℕ) : Type 0 where
+pub record IsCut (app directory : List ℕ) (settings : List Setting) (old new : Contents) (old_directories directories : Directories) (failed : Option (List ℕ)) (old_err err : Option (List ℕ)) (old_faults faults : ℕ) : Type 0 where
   pub bytes : List ℕ
   pub held : Holds old app bytes
-  pub faultless : first_fault bytes ≡ None
+  pub faultless : first_fault bytes settings ≡ None
   pub step : ℕ
-  pub stopped : StoppedAt (steps_of directory (assembly_of bytes)) step old new old_directories directories failed
+  pub stopped : StoppedAt (steps_of directory (assembly_of bytes settings)) step old new old_directories directories failed
   pub line : Says old_err err old_faults faults (write_line (step_path stopped.step))
   -- where files are told, name by name
-  pub stands : StandsAt (steps_of directory (assembly_of bytes)) step old new
-  pub manifest : ManifestStands directory (assembly_of bytes) old new
+  pub stands : StandsAt (steps_of directory (assembly_of bytes settings)) step old new
+  pub manifest : ManifestStands directory (assembly_of bytes settings) old new
   -- a failure of the first two steps leaves all files as they were, and of the first the directories too
   pub early : step < 2 → new ≡ old
   pub at_once : step ≡ 0 → directories ≡ old_directories
@@ -80,10 +87,10 @@ IsToldRefusal refusal NoMemory app old new before now = Says old new before now 
 IsToldRefusal Unread ReadFault app old new before now = Says old new before now (read_line app)
 IsToldRefusal _ _ app old new before now = ⊥
 
--- the application, where told, has this fault first, and the line names it and its place
-abbrev pub IsAppFault : Contents → List ℕ → Option (List ℕ) → Option (List ℕ) → ℕ → ℕ → Type 0
-IsAppFault files app old new before now =
-    (code : Code) × (place : List ℕ) × HasFault files app (App code place) × Says old new before now (error_line code place)
+-- the application, where told, has this fault first with these settings, and the line names it and its place
+abbrev pub IsAppFault : Contents → List ℕ → List Setting → Option (List ℕ) → Option (List ℕ) → ℕ → ℕ → Type 0
+IsAppFault files app settings old new before now =
+    (code : Code) × (place : List ℕ) × HasFault files app settings (App code place) × Says old new before now (error_line code place)
 
 -- a read of the application has failed, and the line names it
 abbrev pub IsReadFault : List ℕ → ℕ → ℕ → Option (List ℕ) → Option (List ℕ) → Option (List ℕ) → ℕ → ℕ → Type 0

@@ -4,4 +4,3 @@ pub mod EvalCauses
 pub mod Evaluation
 pub mod Headline
 pub mod Status
-pub mod Words

@@ -1,6 +1,6 @@
 -- The exit statuses, and which answers may come of which command (own).
 use Rattle.std.specs.Prelude.{ℕ, Bool, true, false, ⊤, Option, Some}
-use Rattle.cdk_tool.specs.Words.{CommandWords, SynthWords, EvalWords}
+use Rattle.cdk_words.specs.Words.{CommandWords, SynthWords, EvalWords}
 use Rattle.cdk_tool.specs.declared.status.Status.{Status}
 use Rattle.cdk_tool.specs.declared.status.Status.TheVariants.{Done, AppFault, BadWords, EvalFaults, ReadFault, WriteFault, NoMemory, BadInput}
 
@@ -35,7 +35,7 @@ is_of_eval _ = false
 
 -- the answers of a command
 abbrev pub may_answer : CommandWords → Status → Bool
-may_answer (SynthWords _ _) status = is_of_synth status
+may_answer (SynthWords _ _ _) status = is_of_synth status
 may_answer (EvalWords _ _) status = is_of_eval status
 
 -- the answers of writing
@@ -53,7 +53,7 @@ is_of_printing _ = false
 
 -- the answers after which something may have been written to files
 abbrev pub may_have_written : Option CommandWords → Status → Bool
-may_have_written (Some (SynthWords _ _)) status = is_of_writing status
+may_have_written (Some (SynthWords _ _ _)) status = is_of_writing status
 may_have_written _ status = false
 
 -- the answers after which something may have been printed

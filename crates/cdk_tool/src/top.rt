@@ -1,22 +1,26 @@
 // The top call: the order of refusals, of the memory that is taken and of the writes.
 ghost use Rattle.std.specs.Prelude.{◌≡◌, ◌≤◌, ℕ, List, true, false, [], ◌∷◌, IfOk, IfErr, IfSome, OnSome, OnErr, None, Some, MatchOption, map, codes};
+ghost use Rattle.cdk_base.specs.declared.Setting.{Setting};
 ghost use Rattle.cdk_outside.specs.Outside.{Holds, Rose};
 ghost use Rattle.cdk_write.specs.Lines.{read_line, write_line, error_line, bad_words_line, memory_line, Says};
 ghost use Rattle.cdk_write.specs.Steps.{step_view, step_path, files_after_all, directories_after_all, StoppedAt, put, path_in as path_in_directory};
-ghost use Rattle.cdk_synthesis.specs.Assembly.{assembly_of, AllUtf8};
+ghost use Rattle.cdk_synthesis.specs.Assembly.{assembly_of, tree_of, AllUtf8};
+ghost use Rattle.cdk_synthesis.specs.Checks.{AreCounted};
 ghost use Rattle.cdk_synthesis.specs.Passes.{first_fault};
 ghost use Rattle.cdk_tool.specs.Assembly.{steps_of as steps_of_writing};
 ghost use Rattle.cdk_tool.specs.Headline.{MeaningIsKept};
 ghost use Rattle.cdk_tool.specs.EvalCauses.{is_reported, IsReported, IsPartlyReported, IsBadInput, IsUnread};
-ghost use Rattle.cdk_tool.specs.Words.{command_of, OnSynth, OnEval};
+ghost use Rattle.cdk_words.specs.Settings.{settings_in};
+ghost use Rattle.cdk_words.specs.Words.{command_of, OnSynth, OnEval};
 ghost use Rattle.cdk_tool.specs.Status.{is_of_synth, is_of_writing, may_answer, may_have_written, may_have_printed, IsComplete, IsCompleteEval};
-ghost use Rattle.cdk_tool.specs.Causes.{IsCause, IsDone, IsCut, IsReadFault, IsAppFault, IsToldFault, IsToldRefusal};
+ghost use Rattle.cdk_tool.specs.Causes.{IsCause, IsUnsynthesised, IsDone, IsCut, IsReadFault, IsAppFault, IsToldFault, IsToldRefusal};
 
+use crate::Status;
 use crate::evaluation::eval_command;
-use crate::{Command, Status, plain};
-use cdk_base::{Code, Fault, List, Text};
+use cdk_base::{Code, Fault, List, Setting, Text};
 use cdk_outside::{Files, ReadError, Sink};
-use cdk_synthesis::{File, MOST_BYTES, fault_at_root, synth};
+use cdk_synthesis::{File, MOST_BYTES, fault_at_root, files_keep_meaning, synth};
+use cdk_words::{Command, plain, settings_of};
 use cdk_write::{
     Action, BAD_WORDS, OUT_OF_MEMORY, Step, error_text, path_in, read_text, tell, write_steps,
 };
@@ -33,10 +37,29 @@ enum Refusal {
     NoRoom,
 }
 
-// The files of the application's assembly.
-fn gather<F: Files>(alloc: Global, app: &str, files: &mut F) -> Result<List<File>, Refusal>
-    ensures ok { IfOk result (λ list. (bytes : List ℕ) × Holds (F.files files.old) app.now bytes × (first_fault bytes ≡ None) × (list ≡ assembly_of bytes) × AllUtf8 list) }
-    ensures refused { IfErr result (λ refusal. IsCause refusal (F.files files.old) app.now (F.read_faults files.old) (F.read_faults files.new) (F.failed_read files.new)) }
+// The files of the application's assembly, with the settings of these words laid over its context.
+fn synthesised(alloc: Global, bytes: &[u8], settings: &[Text]) -> Result<List<File>, Refusal>
+    ensures ok { IfOk result (λ list. (first_fault bytes.now (settings_in settings.now) ≡ None) × (list ≡ assembly_of bytes.now (settings_in settings.now)) × AreCounted (tree_of bytes.now (settings_in settings.now)) × AllUtf8 list) }
+    ensures refused { IfErr result (IsUnsynthesised bytes.now (settings_in settings.now)) }
+{
+    let Ok(settings) = settings_of(alloc, settings) else {
+        return Err(Refusal::NoRoom);
+    };
+    match synth(alloc, bytes, settings.as_slice()) {
+        Ok(list) => Ok(list),
+        Err(fault) => Err(Refusal::Faulty(fault)),
+    }
+}
+
+// The files of the assembly of the application in the file. It is read first, and then the settings.
+fn gather<F: Files>(
+    alloc: Global,
+    app: &str,
+    settings: &[Text],
+    files: &mut F,
+) -> Result<List<File>, Refusal>
+    ensures ok { IfOk result (λ list. (bytes : List ℕ) × Holds (F.files files.old) app.now bytes × (first_fault bytes (settings_in settings.now) ≡ None) × (list ≡ assembly_of bytes (settings_in settings.now)) × AreCounted (tree_of bytes (settings_in settings.now)) × AllUtf8 list) }
+    ensures refused { IfErr result (λ refusal. IsCause refusal (F.files files.old) app.now (settings_in settings.now) (F.read_faults files.old) (F.read_faults files.new) (F.failed_read files.new)) }
     ensures files { F.files files.new ≡ F.files files.old }
     ensures directories { F.directories files.new ≡ F.directories files.old }
     ensures never_falls { F.read_faults files.old ≤ F.read_faults files.new }
@@ -44,10 +67,7 @@ fn gather<F: Files>(alloc: Global, app: &str, files: &mut F) -> Result<List<File
     ensures failed_write { F.failed_write files.new ≡ F.failed_write files.old }
 {
     match files.read(alloc, app, MOST_BYTES) {
-        Ok(bytes) => match synth(alloc, bytes.as_slice(), &[]) {
-            Ok(list) => Ok(list),
-            Err(fault) => Err(Refusal::Faulty(fault)),
-        },
+        Ok(bytes) => synthesised(alloc, bytes.as_slice(), settings),
         Err(ReadError::TooLong) => Err(Refusal::Faulty(fault_at_root(alloc, Code::TooLong))),
         Err(ReadError::Failed) => Err(Refusal::Unread),
         Err(ReadError::Memory) => Err(Refusal::NoRoom),
@@ -157,22 +177,25 @@ fn synth_command<F: Files, E: Sink>(
     alloc: Global,
     app: &str,
     directory: &str,
+    settings: &[Text],
     files: &mut F,
     err: &mut E,
 ) -> Status
     ensures kind { is_of_synth result ≡ true }
     ensures read { result ≡ Status.ReadFault → IsReadFault app.now (F.read_faults files.old) (F.read_faults files.new) (F.failed_read files.new) (E.written err.old) (E.written err.new) (E.faults err.old) (E.faults err.new) }
-    ensures fault { result ≡ Status.AppFault → IsAppFault (F.files files.old) app.now (E.written err.old) (E.written err.new) (E.faults err.old) (E.faults err.new) }
-    ensures done { result ≡ Status.Done → IsDone app.now directory.now (F.files files.old) (F.files files.new) (F.directories files.old) (F.directories files.new) }
-    ensures meaning { result ≡ Status.Done → MeaningIsKept app.now directory.now (F.files files.old) (F.files files.new) }
+    ensures fault { result ≡ Status.AppFault → IsAppFault (F.files files.old) app.now (settings_in settings.now) (E.written err.old) (E.written err.new) (E.faults err.old) (E.faults err.new) }
+    ensures done { result ≡ Status.Done → IsDone app.now directory.now (settings_in settings.now) (F.files files.old) (F.files files.new) (F.directories files.old) (F.directories files.new) }
+    ensures meaning { result ≡ Status.Done → MeaningIsKept app.now directory.now (settings_in settings.now) (F.files files.old) (F.files files.new) }
     ensures done_err { result ≡ Status.Done → E.written err.new ≡ E.written err.old }
-    ensures cut { result ≡ Status.WriteFault → IsCut app.now directory.now (F.files files.old) (F.files files.new) (F.directories files.old) (F.directories files.new) (F.failed_write files.new) (E.written err.old) (E.written err.new) (E.faults err.old) (E.faults err.new) }
+    ensures cut { result ≡ Status.WriteFault → IsCut app.now directory.now (settings_in settings.now) (F.files files.old) (F.files files.new) (F.directories files.old) (F.directories files.new) (F.failed_write files.new) (E.written err.old) (E.written err.new) (E.faults err.old) (E.faults err.new) }
     ensures rose { result ≡ Status.WriteFault → Rose (F.write_faults files.old) (F.write_faults files.new) }
     ensures kept_files { is_of_writing result ≡ false → F.files files.new ≡ F.files files.old }
     ensures kept_directories { is_of_writing result ≡ false → F.directories files.new ≡ F.directories files.old }
     ensures memory { result ≡ Status.NoMemory → Says (E.written err.old) (E.written err.new) (E.faults err.old) (E.faults err.new) memory_line }
 {
-    match gather(alloc, app, files) {
+    // What is written means what the application means.
+    files_keep_meaning();
+    match gather(alloc, app, settings, files) {
         Ok(list) => match steps_of(alloc, directory, list.as_slice()) {
             Ok(steps) => perform(steps.as_slice(), files, err),
             Err(_) => out_of_memory(err),
@@ -192,9 +215,9 @@ fn bad_words<E: Sink>(err: &mut E) -> Status
 
 /// Carries out the command that the words name, and answers how it ended. Words that aren't plain are refused.
 ///
-/// `synth APP OUTDIR` reads APP and makes the whole assembly in memory, with all names and lines; only then it makes the
-/// directory OUTDIR, takes `OUTDIR/manifest.json` out and writes the files in order, the manifest last. It writes nothing
-/// to `out`.
+/// `synth APP OUTDIR [KEY=VALUE]...` reads APP, lays the settings over the context of its root, and makes the whole assembly
+/// in memory, with all names and lines; only then it makes the directory OUTDIR, takes `OUTDIR/manifest.json` out and writes
+/// the files in order, the manifest last. It writes nothing to `out`.
 ///
 /// `eval DIR VALUES` reads the assembly in DIR and then the file VALUES, evaluates each stack under the exports of those
 /// before it, makes the whole report and its line in memory, and only then prints it to `out`. It writes no file. Its
@@ -212,18 +235,18 @@ pub fn run<F: Files, O: Sink, E: Sink>(
     ensures bad_words { MatchOption (command_of words.now) (result ≡ Status.BadWords) (λ c. may_answer c result ≡ true) }
     ensures bad_words_line { result ≡ Status.BadWords → Says (E.written err.old) (E.written err.new) (E.faults err.old) (E.faults err.new) bad_words_line }
     // A read fault only where the count of failed reads rose and the kept name is the application's.
-    ensures read { result ≡ Status.ReadFault → OnSynth (command_of words.now) (λ app _. IsReadFault app (F.read_faults files.old) (F.read_faults files.new) (F.failed_read files.new) (E.written err.old) (E.written err.new) (E.faults err.old) (E.faults err.new)) }
-    // A fault of the application that is held, and the line names it.
-    ensures fault { result ≡ Status.AppFault → OnSynth (command_of words.now) (λ app _. IsAppFault (F.files files.old) app (E.written err.old) (E.written err.new) (E.faults err.old) (E.faults err.new)) }
-    // An application without fault, and its assembly is written whole.
-    ensures done { result ≡ Status.Done → OnSynth (command_of words.now) (λ app directory. IsDone app directory (F.files files.old) (F.files files.new) (F.directories files.old) (F.directories files.new)) }
-    // Evaluating the written files gives each property its meaning in the construct tree, under all values, and no text or
-    // key of a template has the beginning of a token's marker.
-    ensures meaning { result ≡ Status.Done → OnSynth (command_of words.now) (λ app directory. MeaningIsKept app directory (F.files files.old) (F.files files.new)) }
+    ensures read { result ≡ Status.ReadFault → OnSynth (command_of words.now) (λ app _ _. IsReadFault app (F.read_faults files.old) (F.read_faults files.new) (F.failed_read files.new) (E.written err.old) (E.written err.new) (E.faults err.old) (E.faults err.new)) }
+    // A fault that the application that is held has with the settings of the words, and the line names it.
+    ensures fault { result ≡ Status.AppFault → OnSynth (command_of words.now) (λ app _ settings. IsAppFault (F.files files.old) app settings (E.written err.old) (E.written err.new) (E.faults err.old) (E.faults err.new)) }
+    // An application without fault with these settings, and its assembly is written whole.
+    ensures done { result ≡ Status.Done → OnSynth (command_of words.now) (λ app directory settings. IsDone app directory settings (F.files files.old) (F.files files.new) (F.directories files.old) (F.directories files.new)) }
+    // Evaluating the written files gives each resource its presence, each property and each output its meaning in the construct
+    // tree, under all values, and no text or key of a template has the beginning of a token's marker.
+    ensures meaning { result ≡ Status.Done → OnSynth (command_of words.now) (λ app directory settings. MeaningIsKept app directory settings (F.files files.old) (F.files files.new)) }
     ensures done_err { is_reported result ≡ true → E.written err.new ≡ E.written err.old }
     // An application without fault whose writing stopped at a call that failed; what stands, and the name in the line.
-    ensures cut { result ≡ Status.WriteFault → OnSynth (command_of words.now) (λ app directory. IsCut app directory (F.files files.old) (F.files files.new) (F.directories files.old) (F.directories files.new) (F.failed_write files.new) (E.written err.old) (E.written err.new) (E.faults err.old) (E.faults err.new)) }
-    ensures rose { result ≡ Status.WriteFault → OnSynth (command_of words.now) (λ _ _. Rose (F.write_faults files.old) (F.write_faults files.new)) }
+    ensures cut { result ≡ Status.WriteFault → OnSynth (command_of words.now) (λ app directory settings. IsCut app directory settings (F.files files.old) (F.files files.new) (F.directories files.old) (F.directories files.new) (F.failed_write files.new) (E.written err.old) (E.written err.new) (E.faults err.old) (E.faults err.new)) }
+    ensures rose { result ≡ Status.WriteFault → OnSynth (command_of words.now) (λ _ _ _. Rose (F.write_faults files.old) (F.write_faults files.new)) }
     // An assembly and values that can be used: the whole report is printed, with a fault in it or without.
     ensures eval_done { result ≡ Status.Done → OnEval (command_of words.now) (λ directory values. IsReported false (F.files files.old) directory values (O.written out.old) (O.written out.new)) }
     ensures eval_faults { result ≡ Status.EvalFaults → OnEval (command_of words.now) (λ directory values. IsReported true (F.files files.old) directory values (O.written out.old) (O.written out.new)) }
@@ -241,12 +264,14 @@ pub fn run<F: Files, O: Sink, E: Sink>(
     ensures out { may_have_printed (command_of words.now) result ≡ false → O.written out.new ≡ O.written out.old }
     ensures memory { result ≡ Status.NoMemory → Says (E.written err.old) (E.written err.new) (E.faults err.old) (E.faults err.new) memory_line }
     // Where no call of the outside fails, plain words are carried out, unless the input has a fault or memory is wanting.
-    ensures complete { OnSynth (command_of words.now) (λ _ _. ¬ (Rose (F.read_faults files.old) (F.read_faults files.new)) → ¬ (Rose (F.write_faults files.old) (F.write_faults files.new)) → IsComplete result) }
+    ensures complete { OnSynth (command_of words.now) (λ _ _ _. ¬ (Rose (F.read_faults files.old) (F.read_faults files.new)) → ¬ (Rose (F.write_faults files.old) (F.write_faults files.new)) → IsComplete result) }
     ensures eval_complete { OnEval (command_of words.now) (λ _ _. ¬ (Rose (F.read_faults files.old) (F.read_faults files.new)) → ¬ (Rose (O.faults out.old) (O.faults out.new)) → IsCompleteEval result) }
 {
     match plain(words) {
         None => bad_words(err),
-        Some(Command::Synth { app, dir }) => synth_command(alloc, app, dir, files, err),
+        Some(Command::Synth { app, dir, settings }) => {
+            synth_command(alloc, app, dir, settings, files, err)
+        }
         Some(Command::Eval { dir, values }) => eval_command(alloc, dir, values, files, out, err),
     }
 }
