@@ -4,5 +4,5 @@ mod Examples
 mod LastDot
 mod ListLemmas
 mod MarkingLemmas
-mod ShapeLemmas
+mod TokenLemmas
 pub mod Numbered

@@ -1,7 +1,7 @@
 -- Expressions that are marked one after another: one of them, and then the rest.
-use Rattle.std.proofs.Common.{◌≡◌, ℕ, List, [], ◌∷◌, ◌++◌, ◌+◌, length, String, Global, string_bytes, rules, refl, ap, sym, ◌∙◌, append_assoc}
+use Rattle.std.proofs.Common.{◌≡◌, ℕ, Bool, List, [], ◌∷◌, ◌++◌, ◌+◌, length, String, Global, string_bytes, rules, refl, ap, sym, ◌∙◌, append_assoc}
 use Rattle.std.specs.Prelude.{unwrap_or}
-use Rattle.serde_json.specs.Data.{Data, Members, item, put, string}
+use Rattle.serde_json.specs.Data.{Data, Members, boolean, item, put, string}
 use Rattle.serde_json.specs.View.{view as json_view, items_of}
 use Rattle.serde_json.specs.declared.value.Value as json
 use Rattle.cdk_base.specs.Json.{text_of}
@@ -16,6 +16,9 @@ use Rattle.cdk_tokens.proofs.CountLemmas.{length_after, tokens_then}
 
 pub view-String : (s : String Global) → json_view (json.String s) ≡ string (string_bytes s)
 view-String s = search (rules, json.the_lemmas)
+
+pub view-Bool : (b : Bool) → json_view (json.Bool b) ≡ boolean b
+view-Bool b = search (rules, json.the_lemmas)
 
 pub seen_field : (f : Field) → field_view f ≡ (f.key, view f.value)
 seen_field f = search (rules, the_lemmas)

@@ -7,5 +7,4 @@ pub mod Scanning
 pub mod Views
 pub mod TableView
 pub mod Marks
-pub mod Shapes
 pub mod Values

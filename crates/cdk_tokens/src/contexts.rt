@@ -25,7 +25,7 @@ use serde_json::Number;
 use std::alloc::{AllocError, Global};
 
 /// What a Context of the construct finds: the value of its key in the nearest scope, else its default.
-fn found_value<'a>(
+pub(crate) fn found_value<'a>(
     tree: &'a Tree,
     at: NodeId,
     key: &str,

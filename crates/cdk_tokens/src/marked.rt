@@ -19,7 +19,7 @@ pub struct Marked {
 }
 
 impl Marked {
-    ghost use Rattle.std.specs.Prelude.{◌≡◌, map, option_map};
+    ghost use Rattle.std.specs.Prelude.{◌≡◌, map, option_map, slice_get};
     ghost use Rattle.serde_json.specs.View.{view as json_view};
     ghost use Rattle.cdk_tokens.specs.TableView.{marked_in};
     ghost use Rattle.cdk_tokens.specs.Views.{part_view};
@@ -31,11 +31,17 @@ impl Marked {
         Marked { parts }
     }
 
+    fn part(&self, at: NodeId) -> Option<&Part>
+        ensures { option_map (λ p. part_view p.now) result ≡ slice_get (marked_in self.now) at }
+    {
+        self.parts.get(at.number())
+    }
+
     /// The marked properties of a resource, or the marked value of an output or lazy. None exactly for other constructs.
     pub fn value(&self, at: NodeId) -> Option<&Value>
         ensures { option_map (λ v. json_view v.now) result ≡ value_at (marked_in self.now) at }
     {
-        match self.parts.get(at.number())? {
+        match self.part(at)? {
             Part::Value(value) => Some(value),
             Part::Nothing | Part::Operands(_) => None,
         }
@@ -46,7 +52,7 @@ impl Marked {
     pub fn operand(&self, at: NodeId, n: usize) -> Option<&Value>
         ensures { option_map (λ v. json_view v.now) result ≡ operand_at (marked_in self.now) at n }
     {
-        match self.parts.get(at.number())? {
+        match self.part(at)? {
             Part::Operands(values) => values.get(n),
             Part::Nothing | Part::Value(_) => None,
         }

@@ -8,10 +8,11 @@ ghost use Rattle.cdk_base.specs.Json.{text_of as text_in_json};
 ghost use Rattle.cdk_language.specs.Expression.{view, expressions_view, fields_view};
 ghost use Rattle.cdk_tree.specs.TreeView.{constructs};
 ghost use Rattle.cdk_tokens.specs.Marking.{all_tokens, context_value as spec_context_value, fields_tokens, hint as spec_hint, marked, marked_items, marked_members, marked_text, spelled, target, token_of, tokens};
-ghost use Rattle.cdk_tokens.specs.Shapes.{IsShapeOf};
 ghost use Rattle.cdk_tokens.specs.TableView.{tokens_in};
+ghost use Rattle.cdk_tokens.specs.Token.{get_att, import_value, join, split};
 ghost use Rattle.cdk_tokens.specs.Views.{form_view};
 
+use crate::contexts::found_value;
 use crate::form::Form;
 use crate::table::Table;
 use cdk_base::{List, Map, Text, Value, text_of};
@@ -20,11 +21,10 @@ use cdk_tree::{NodeId, Tree};
 use serde_json::{Number, put};
 use std::alloc::{AllocError, Global};
 
-// An expression with its arguments marked: a value, or a token that has no number yet.
-#[derive(Drop)]
-enum Shape {
-    Value(Value),
-    Token(Form),
+fn text_value(alloc: Global, text: &Text) -> Result<Value, AllocError>
+    ensures { IfOk result (λ v. json_view v ≡ string text.now) }
+{
+    Value::try_from_str(alloc, text.as_str())
 }
 
 // A number that isn't within 64 bits has no place in a `Value`. No document has one, and it ends like want of memory.
@@ -41,27 +41,23 @@ fn whole_value(n: i128) -> Result<Value, AllocError>
 fn context_value(
     tree: &Tree,
     at: NodeId,
-    key: &str,
+    key: &Text,
     default: &Option<Value>,
 ) -> Result<Value, AllocError>
     requires { at < length (constructs tree.now) }
     ensures { IfOk result (λ v. json_view v ≡ spec_context_value (constructs tree.now) at key.now (option_map json_view default.now)) }
 {
-    let found = match tree.context(at, key) {
-        Some(value) => Some(value),
-        None => default.as_ref(),
-    };
-    match found {
-        Some(value) => Ok(value.clone()?),
+    match found_value(tree, at, key.as_str(), default) {
+        Some(value) => value.clone(),
         None => Ok(Value::Null),
     }
 }
 
 // What no construct has as its path is refused before, and stands for the root here.
-fn target_of(tree: &Tree, path: &str) -> NodeId
+fn target_of(tree: &Tree, path: &Text) -> NodeId
     ensures { result ≡ target (constructs tree.now) path.now }
 {
-    match tree.find(path) {
+    match tree.find(path.as_str()) {
         Some(at) => at,
         None => NodeId::ROOT,
     }
@@ -108,63 +104,72 @@ fn push_token(
     table.push(alloc, hint(e), at, list, form)
 }
 
-// Marks what is in an expression.
-#[cycle(marking)]
-fn shape_of(
+fn push_get_att(
     alloc: Global,
     tree: &Tree,
     at: NodeId,
     table: &mut Table,
     e: &Expr,
-) -> Result<Shape, AllocError>
+    path: &Text,
+    attribute: &Text,
+) -> Result<Value, AllocError>
     requires { at < length (constructs tree.now) }
-    ensures { IfOk result (λ s. IsShapeOf s (constructs tree.now) at (tokens_in table.old) (tokens_in table.new) (view e.now)) }
+    ensures value { IfOk result (λ v. json_view v ≡ spelled (constructs tree.now) at (length (tokens_in table.old)) (view e.now)) }
+    ensures tokens { OnOk result (tokens_in table.new ≡ tokens_in table.old ++ token_of (constructs tree.now) at (length (tokens_in table.old)) (view e.now) (get_att (target (constructs tree.now) path.now) attribute.now) ∷ []) }
 {
-    match e {
-        Expr::Text(text) => Ok(Shape::Value(Value::try_from_str(alloc, text.as_str())?)),
-        Expr::Whole(n) => Ok(Shape::Value(whole_value(*n)?)),
-        Expr::Truth(b) => Ok(Shape::Value(Value::Bool(*b))),
-        Expr::List(items) => Ok(Shape::Value(mark_items(alloc, tree, at, table, items)?)),
-        Expr::Object(fields) => Ok(Shape::Value(mark_fields(alloc, tree, at, table, fields)?)),
-        Expr::Concat(pieces) => Ok(Shape::Value(mark_pieces(alloc, tree, at, table, pieces)?)),
-        Expr::Context(key, default) => {
-            Ok(Shape::Value(context_value(tree, at, key.as_str(), default)?))
-        }
-        Expr::Pseudo(pseudo) => Ok(Shape::Token(Form::Pseudo(*pseudo))),
-        Expr::Ref(path) => Ok(Shape::Token(Form::Ref(target_of(tree, path.as_str())))),
-        Expr::GetAtt(path, attribute) => {
-            let attribute = Text::new(alloc, attribute.as_str())?;
-            Ok(Shape::Token(Form::GetAtt(target_of(tree, path.as_str()), attribute)))
-        }
-        Expr::Join(delimiter, list) => {
-            let list = mark_expression(alloc, tree, at, table, list)?;
-            let delimiter = Text::new(alloc, delimiter.as_str())?;
-            Ok(Shape::Token(Form::Join(delimiter, list)))
-        }
-        Expr::Select(n, list) => {
-            let list = mark_expression(alloc, tree, at, table, list)?;
-            Ok(Shape::Token(Form::Select(*n, list)))
-        }
-        Expr::Split(delimiter, text) => {
-            let text = mark_expression(alloc, tree, at, table, text)?;
-            let delimiter = Text::new(alloc, delimiter.as_str())?;
-            Ok(Shape::Token(Form::Split(delimiter, text)))
-        }
-        Expr::If(path, x, y) => {
-            let x = mark_expression(alloc, tree, at, table, x)?;
-            let y = mark_expression(alloc, tree, at, table, y)?;
-            Ok(Shape::Token(Form::If(target_of(tree, path.as_str()), x, y)))
-        }
-        Expr::FindInMap(path, x, y) => {
-            let x = mark_expression(alloc, tree, at, table, x)?;
-            let y = mark_expression(alloc, tree, at, table, y)?;
-            Ok(Shape::Token(Form::FindInMap(target_of(tree, path.as_str()), x, y)))
-        }
-        Expr::ImportValue(name) => {
-            Ok(Shape::Token(Form::ImportValue(Text::new(alloc, name.as_str())?)))
-        }
-        Expr::Lazy(path) => Ok(Shape::Token(Form::Lazy(target_of(tree, path.as_str())))),
-    }
+    let attribute = Text::new(alloc, attribute.as_str())?;
+    let form = Form::GetAtt(target_of(tree, path), attribute);
+    push_token(alloc, tree, at, table, e, form)
+}
+
+fn push_join(
+    alloc: Global,
+    tree: &Tree,
+    at: NodeId,
+    table: &mut Table,
+    e: &Expr,
+    delimiter: &Text,
+    list: Value,
+) -> Result<Value, AllocError>
+    requires { at < length (constructs tree.now) }
+    ensures value { IfOk result (λ v. json_view v ≡ spelled (constructs tree.now) at (length (tokens_in table.old)) (view e.now)) }
+    ensures tokens { OnOk result (tokens_in table.new ≡ tokens_in table.old ++ token_of (constructs tree.now) at (length (tokens_in table.old)) (view e.now) (join delimiter.now (json_view list)) ∷ []) }
+{
+    let delimiter = Text::new(alloc, delimiter.as_str())?;
+    push_token(alloc, tree, at, table, e, Form::Join(delimiter, list))
+}
+
+fn push_split(
+    alloc: Global,
+    tree: &Tree,
+    at: NodeId,
+    table: &mut Table,
+    e: &Expr,
+    delimiter: &Text,
+    text: Value,
+) -> Result<Value, AllocError>
+    requires { at < length (constructs tree.now) }
+    ensures value { IfOk result (λ v. json_view v ≡ spelled (constructs tree.now) at (length (tokens_in table.old)) (view e.now)) }
+    ensures tokens { OnOk result (tokens_in table.new ≡ tokens_in table.old ++ token_of (constructs tree.now) at (length (tokens_in table.old)) (view e.now) (split delimiter.now (json_view text)) ∷ []) }
+{
+    let delimiter = Text::new(alloc, delimiter.as_str())?;
+    push_token(alloc, tree, at, table, e, Form::Split(delimiter, text))
+}
+
+fn push_import_value(
+    alloc: Global,
+    tree: &Tree,
+    at: NodeId,
+    table: &mut Table,
+    e: &Expr,
+    name: &Text,
+) -> Result<Value, AllocError>
+    requires { at < length (constructs tree.now) }
+    ensures value { IfOk result (λ v. json_view v ≡ spelled (constructs tree.now) at (length (tokens_in table.old)) (view e.now)) }
+    ensures tokens { OnOk result (tokens_in table.new ≡ tokens_in table.old ++ token_of (constructs tree.now) at (length (tokens_in table.old)) (view e.now) (import_value name.now) ∷ []) }
+{
+    let name = Text::new(alloc, name.as_str())?;
+    push_token(alloc, tree, at, table, e, Form::ImportValue(name))
 }
 
 /// The marked value of an expression of the construct. Its tokens are put at the end of the table.
@@ -182,9 +187,49 @@ pub(crate) fn mark_expression(
     ensures value { IfOk result (λ v. json_view v ≡ marked (constructs tree.now) at (length (tokens_in table.old)) (view e.now)) }
     ensures tokens { OnOk result (tokens_in table.new ≡ tokens_in table.old ++ tokens (constructs tree.now) at (length (tokens_in table.old)) (view e.now)) }
 {
-    match shape_of(alloc, tree, at, table, e)? {
-        Shape::Value(value) => Ok(value),
-        Shape::Token(form) => push_token(alloc, tree, at, table, e, form),
+    match e {
+        Expr::Text(text) => text_value(alloc, text),
+        Expr::Whole(n) => whole_value(*n),
+        Expr::Truth(b) => Ok(Value::Bool(*b)),
+        Expr::List(items) => mark_items(alloc, tree, at, table, items),
+        Expr::Object(fields) => mark_fields(alloc, tree, at, table, fields),
+        Expr::Concat(pieces) => mark_pieces(alloc, tree, at, table, pieces),
+        Expr::Context(key, default) => context_value(tree, at, key, default),
+        Expr::Pseudo(pseudo) => push_token(alloc, tree, at, table, e, Form::Pseudo(*pseudo)),
+        Expr::Ref(path) => {
+            push_token(alloc, tree, at, table, e, Form::Ref(target_of(tree, path)))
+        }
+        Expr::GetAtt(path, attribute) => {
+            push_get_att(alloc, tree, at, table, e, path, attribute)
+        }
+        Expr::Join(delimiter, list) => {
+            let list = mark_expression(alloc, tree, at, table, list)?;
+            push_join(alloc, tree, at, table, e, delimiter, list)
+        }
+        Expr::Select(n, list) => {
+            let list = mark_expression(alloc, tree, at, table, list)?;
+            push_token(alloc, tree, at, table, e, Form::Select(*n, list))
+        }
+        Expr::Split(delimiter, text) => {
+            let text = mark_expression(alloc, tree, at, table, text)?;
+            push_split(alloc, tree, at, table, e, delimiter, text)
+        }
+        Expr::If(path, x, y) => {
+            let x = mark_expression(alloc, tree, at, table, x)?;
+            let y = mark_expression(alloc, tree, at, table, y)?;
+            let form = Form::If(target_of(tree, path), x, y);
+            push_token(alloc, tree, at, table, e, form)
+        }
+        Expr::FindInMap(path, x, y) => {
+            let x = mark_expression(alloc, tree, at, table, x)?;
+            let y = mark_expression(alloc, tree, at, table, y)?;
+            let form = Form::FindInMap(target_of(tree, path), x, y);
+            push_token(alloc, tree, at, table, e, form)
+        }
+        Expr::ImportValue(name) => push_import_value(alloc, tree, at, table, e, name),
+        Expr::Lazy(path) => {
+            push_token(alloc, tree, at, table, e, Form::Lazy(target_of(tree, path)))
+        }
     }
 }
 
@@ -229,10 +274,12 @@ fn mark_fields(
 }
 
 // What has no text is refused before, and adds nothing here.
-fn push_text(alloc: Global, text: &mut String, value: &Value) -> Result<(), AllocError>
-    ensures { OnOk result (string_bytes text.new ≡ string_bytes text.old ++ unwrap_or (text_in_json (json_view value.now)) []) }
+fn push_text(alloc: Global, text: &mut String, value: Value) -> Result<(), AllocError>
+    ensures { OnOk result (string_bytes text.new ≡ string_bytes text.old ++ unwrap_or (text_in_json (json_view value)) []) }
 {
-    match text_of(alloc, value)? {
+    let more = text_of(alloc, &value);
+    drop(value);
+    match more? {
         Some(more) => text.push_str(more.as_str()),
         None => Ok(()),
     }
@@ -253,7 +300,7 @@ fn mark_pieces(
     let mut text = String::new(alloc);
     for piece in pieces.as_slice() {
         let value = mark_expression(alloc, tree, at, table, piece)?;
-        push_text(alloc, &mut text, &value)?;
+        push_text(alloc, &mut text, value)?;
     }
     Ok(Value::String(text))
 }

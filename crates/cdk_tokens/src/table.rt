@@ -1,5 +1,7 @@
 // The tokens of an application, and how they are found by their keys.
-ghost use Rattle.std.specs.Prelude.{◌≡◌, map, true};
+ghost use Rattle.std.specs.Prelude.{◌≡◌, map, true, IfOk};
+ghost use Rattle.serde_json.specs.View.{view as json_view};
+ghost use Rattle.cdk_tokens.specs.Token.{key_of, marker};
 ghost use Rattle.cdk_tokens.specs.Views.{token_view, are_numbered};
 
 use crate::form::{Form, Token};
@@ -7,6 +9,38 @@ use cdk_base::{Text, Value};
 use cdk_markers::{list_marker, text_marker};
 use cdk_tree::NodeId;
 use std::alloc::{AllocError, Global};
+
+// The key of the token of the number.
+fn next_key(alloc: Global, hint: &str, number: usize) -> Result<Text, AllocError>
+    ensures { IfOk result (λ key. key ≡ key_of hint.now number) }
+{
+    Ok(Text::from_string(format!(in alloc; "{hint}.{number}")?))
+}
+
+// How a token is written where its value stands.
+fn marker_of(alloc: Global, list: bool, key: &str) -> Result<Value, AllocError>
+    ensures { IfOk result (λ v. json_view v ≡ marker list key.now) }
+{
+    if list {
+        return list_marker(alloc, key);
+    }
+    let text = text_marker(alloc, key)?;
+    Value::try_from_str(alloc, text.as_str())
+}
+
+// The key of the token of the number, and how the token is written where its value stands.
+fn key_and_marker(
+    alloc: Global,
+    hint: &str,
+    number: usize,
+    list: bool,
+) -> Result<(Text, Value), AllocError>
+    ensures { IfOk result (λ made. (made.0 ≡ key_of hint.now number) × (json_view made.1 ≡ marker list (key_of hint.now number))) }
+{
+    let key = next_key(alloc, hint, number)?;
+    let value = marker_of(alloc, list, key.as_str())?;
+    Ok((key, value))
+}
 
 /// All tokens of an application, in the order of their numbers, from 0.
 #[derive(Drop)]
@@ -73,13 +107,13 @@ impl Table {
         ensures tokens { OnOk result (tokens_in self.new ≡ tokens_in self.old ++ record { key = key_of hint.now (length (tokens_in self.old)); owner = owner; is_list = list; form = form_view form } ∷ []) }
         ensures value { IfOk result (λ v. json_view v ≡ marker list (key_of hint.now (length (tokens_in self.old)))) }
     {
-        let number = self.tokens.len();
-        let key = Text::from_string(format!(in alloc; "{hint}.{number}")?);
-        let value = if list {
-            list_marker(alloc, key.as_str())?
-        } else {
-            let text = text_marker(alloc, key.as_str())?;
-            Value::try_from_str(alloc, text.as_str())?
+        let (key, value) = match key_and_marker(alloc, hint, self.tokens.len(), list) {
+            Ok(made) => made,
+            Err(error) => {
+                // One call: at the end of the scope each kind of form would be dropped in place, which is slow to prove.
+                drop(form);
+                return Err(error);
+            }
         };
         self.tokens.push(Token {
             key,

@@ -1,6 +1,6 @@
 use Rattle.std.proofs.Common.{◌≡◌, ◌<◌, ◌∷◌, ◌++◌, ◌+◌, ℕ, [], Bool, true, false, cond, Some, None, drop, length, map, sym, ap, ◌∙◌, arith}
 use Rattle.std.specs.Prelude.{nat_lt}
-use Rattle.std.proofs.lemmas.List.{drop_more, map-append}
+use Rattle.std.proofs.lemmas.List.{append-nil, drop_all, drop_more, map-append}
 use Rattle.cdk_language.specs.Construct.{kind_view}
 use Rattle.cdk_tree.specs.Placed.{construct_at, nowhere}
 use Rattle.cdk_tree.specs.TreeView.{constructs}
@@ -39,4 +39,25 @@ loop-number-preserved c =
           ∙ ap (λ ms. ms ++ marked_from cs (n + 1) (length new) rest) (sym (map-append part_view l.parts.items (c.in_ok-part.part ∷ [])))
           ∙ ap (λ ps. map part_view ps ++ marked_from cs (n + 1) (length new) rest) (sym c.in_ok-push.ensures.items),
       l.invariant.1 ∙ ap (λ ps. old ++ tokens_from cs n (length old) ps) here ∙ tokens_from_then cs n (construct_at cs n) rest old new more,
+    )
+
+pub node-requires : goal.node-requires
+node-requires c =
+    let at : c.in-Some.at ≡ c.loop-number.number = id_is (nat_lt c.loop-number.number (length (constructs c.args.tree.now))) c.loop-number.number c.in-Some.at c.in-Some.ensures in
+    omega (arith, c.len-number-end.ensures)
+
+pub mark_kind-requires : goal.mark_kind-requires
+mark_kind-requires c =
+    let at : c.in-Some.at ≡ c.loop-number.number = id_is (nat_lt c.loop-number.number (length (constructs c.args.tree.now))) c.loop-number.number c.in-Some.at c.in-Some.ensures in
+    omega (arith, c.len-number-end.ensures)
+
+pub returns : goal.returns
+returns c =
+    let l = c.loop-number in
+    let cs = constructs c.args.tree.now in
+    let done = map part_view l.parts.items in
+    let now = tokens_in l.table in
+    let none : drop l.number cs ≡ [] = drop_all l.number cs (omega (arith, c.len-number-end.ensures)) in (
+      c.of.ensures ∙ sym (l.invariant.0 ∙ ap (λ ps. done ++ marked_from cs l.number (length now) ps) none ∙ append-nil done),
+      sym (l.invariant.1 ∙ ap (λ ps. now ++ tokens_from cs l.number (length now) ps) none ∙ append-nil now),
     )

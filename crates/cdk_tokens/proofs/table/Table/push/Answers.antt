@@ -18,7 +18,6 @@ stays_numbered items new t false n hint named count h is = ap (λ l. are_numbere
 
 pub invariant_of-self : goal.invariant_of-self
 invariant_of-self c =
-    let named : c.from_string-key.result ≡ c.args.hint.now ++ 46 ∷ decimal c.len-number.result = search rules in
-    let count : c.len-number.result ≡ length c.args.self.now.tokens.items = search rules in
-    let token : Token = record { key = c.from_string-key.result; owner = c.args.owner; list = c.args.list; form = c.args.form } in
-    record { numbered = stays_numbered c.args.self.now.tokens.items c.push.new.self.items token (is_ok c.push.result) c.len-number.result c.args.hint.now named count c.args.self.now.numbered c.push.ensures.items }
+    let count : c.len.result ≡ length c.args.self.now.tokens.items = search rules in
+    let token : Token = record { key = c.in-Ok.made.0; owner = c.args.owner; list = c.args.list; form = c.args.form } in
+    record { numbered = stays_numbered c.args.self.now.tokens.items c.push.new.self.items token (is_ok c.push.result) c.len.result c.args.hint.now c.in-Ok.ensures.0 count c.args.self.now.numbered c.push.ensures.items }

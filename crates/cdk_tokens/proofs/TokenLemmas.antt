@@ -1,17 +1,56 @@
--- An expression with its arguments marked: what its own token is, and which number it has.
-use Rattle.std.proofs.Common.{◌≡◌, ℕ, List, [], ◌∷◌, ◌++◌, ◌+◌, length, Box, Global, refl, ap, sym, subst, ◌∙◌, rules, arith}
+-- What an expression is, and with its arguments marked, what its own token is and which number it has.
+use Rattle.std.proofs.Common.{◌≡◌, ℕ, ℤ, Bool, List, [], ◌∷◌, ◌++◌, ◌+◌, length, Box, Global, Option, option_map, Result, Ok, Err, refl, ap, sym, subst, ◌∙◌, rules, arith}
+use Rattle.std.specs.Prelude.{IfOk, OnOk}
+use Rattle.std.proofs.lemmas.List.{append-nil}
+use Rattle.std.proofs.lemmas.Result.{IfOk-equal, IfOk-weaker}
 use Rattle.serde_json.specs.Data.{Data}
+use Rattle.serde_json.specs.View as json
+use Rattle.serde_json.specs.declared.value.Value.{Value}
 use Rattle.cdk_base.specs.declared.text.Text.{Text}
 use Rattle.cdk_language.specs.Expression as expression
-use Rattle.cdk_language.specs.Expression.{Expression, view}
-use Rattle.cdk_language.specs.declared.expression.Expr.{Expr, Pseudo, GetAtt, Join, Select, Split, If, FindInMap, ImportValue, the_lemmas}
+use Rattle.cdk_language.specs.Expression.{Expression, expressions_view, fields_view, view}
+use Rattle.cdk_language.specs.declared.expression.Expr.{Expr, Whole, Truth, Pseudo, Ref, GetAtt, Concat, Join, Select, Split, If, FindInMap, ImportValue, Context, Lazy, the_lemmas}
+use Rattle.cdk_language.specs.declared.expression.Expr.TheVariants as exprs
+use Rattle.cdk_language.specs.declared.expression.Field.{Field}
 use Rattle.cdk_language.specs.declared.expression.Pseudo as pseudos
 use Rattle.cdk_tree.specs.Placed.{Placed}
 use Rattle.cdk_tokens.specs.Marking.{count, marked, spelled, target, token_of, tokens}
-use Rattle.cdk_tokens.specs.Shapes.{IsTokenNext}
 use Rattle.cdk_tokens.specs.Token as token
 use Rattle.cdk_tokens.specs.Token.{Token, Form}
 use Rattle.cdk_tokens.proofs.CountLemmas.{length_after, tokens_then}
+
+-- With the tokens old before and new now, only the expression's own token is still to come.
+abbrev pub IsTokenNext : List Placed → ℕ → List Token → List Token → Expression → Form → Type 0
+IsTokenNext cs at old new e f =
+    (spelled cs at (length new) e ≡ marked cs at (length old) e)
+    × (new ++ token_of cs at (length new) e f ∷ [] ≡ old ++ tokens cs at (length old) e)
+
+pub view-Text : (s : Text) → view (exprs.Text s) ≡ expression.text s
+view-Text s = search (rules, the_lemmas)
+
+pub view-Whole : (z : ℤ) → view (Whole z) ≡ expression.whole z
+view-Whole z = search (rules, the_lemmas)
+
+pub view-Truth : (b : Bool) → view (Truth b) ≡ expression.truth b
+view-Truth b = search (rules, the_lemmas)
+
+pub view-List : (xs : List Expr) → view (exprs.List xs) ≡ expression.list (expressions_view xs)
+view-List xs = search (rules, the_lemmas)
+
+pub view-Object : (fs : List Field) → view (exprs.Object fs) ≡ expression.object (fields_view fs)
+view-Object fs = search (rules, the_lemmas)
+
+pub view-Concat : (xs : List Expr) → view (Concat xs) ≡ expression.concat (expressions_view xs)
+view-Concat xs = search (rules, the_lemmas)
+
+pub view-Context : (k : Text) (d : Option Value) → view (Context k d) ≡ expression.context k (option_map json.view d)
+view-Context k d = search (rules, the_lemmas)
+
+pub view-Ref : (t : Text) → view (Ref t) ≡ expression.ref t
+view-Ref t = search (rules, the_lemmas)
+
+pub view-Lazy : (t : Text) → view (Lazy t) ≡ expression.lazy t
+view-Lazy t = search (rules, the_lemmas)
 
 pub view-Pseudo : (p : pseudos.Pseudo) → view (Pseudo p) ≡ expression.pseudo p
 view-Pseudo p = search (rules, the_lemmas)
@@ -37,7 +76,29 @@ view-GetAtt t a = search (rules, the_lemmas)
 pub view-ImportValue : (t : Text) → view (ImportValue t) ≡ expression.import_value t
 view-ImportValue t = search (rules, the_lemmas)
 
+in_any_case : {V E P : Type 0} (r : Result V E) → P → OnOk r P
+in_any_case (Ok v) p = p
+in_any_case (Err e) p = tt
+
 module _ (cs : List Placed) (at : ℕ) (old : List Token) where
+  -- what is known of an expression's value and tokens is known of what it is
+  pub seen_value : {V E : Type 0} (g : V → Data) (r : Result V E) (e e2 : Expression) → e ≡ e2 → IfOk r (λ v. g v ≡ marked cs at (length old) e2) → IfOk r (λ v. g v ≡ marked cs at (length old) e)
+  seen_value g r e e2 seen h = subst (λ x. IfOk r (λ v. g v ≡ marked cs at (length old) x)) (sym seen) h
+
+  pub seen_tokens : {V E : Type 0} (r : Result V E) (new : List Token) (e e2 : Expression) → e ≡ e2 → OnOk r (new ≡ old ++ tokens cs at (length old) e2) → OnOk r (new ≡ old ++ tokens cs at (length old) e)
+  seen_tokens r new e e2 seen h = subst (λ x. OnOk r (new ≡ old ++ tokens cs at (length old) x)) (sym seen) h
+
+  -- an expression with no tokens
+  pub no_tokens : {V E : Type 0} (r : Result V E) (e e2 : Expression) → e ≡ e2 → tokens cs at (length old) e2 ≡ [] → OnOk r (old ≡ old ++ tokens cs at (length old) e)
+  no_tokens r e e2 seen none = in_any_case r (sym (append-nil old) ∙ ap (λ ts. old ++ ts) (sym none) ∙ ap (λ x. old ++ tokens cs at (length old) x) (sym seen))
+
+  -- the expression's own token is put last
+  pub put_value : {V E : Type 0} (g : V → Data) (r : Result V E) (new : List Token) (e : Expression) (f : Form) → IsTokenNext cs at old new e f → IfOk r (λ v. g v ≡ spelled cs at (length new) e) → IfOk r (λ v. g v ≡ marked cs at (length old) e)
+  put_value g r new e f next h = IfOk-weaker r (λ v. g v ≡ spelled cs at (length new) e) (λ v. g v ≡ marked cs at (length old) e) (λ v is. is ∙ next.0) h
+
+  pub put_tokens : {V E : Type 0} (r : Result V E) (new all : List Token) (e : Expression) (f : Form) → IsTokenNext cs at old new e f → OnOk r (all ≡ new ++ token_of cs at (length new) e f ∷ []) → OnOk r (all ≡ old ++ tokens cs at (length old) e)
+  put_tokens r new all e f next h = IfOk-equal r all (new ++ token_of cs at (length new) e f ∷ []) (old ++ tokens cs at (length old) e) h next.1
+
   -- the same of what is the same
   same_next : (new : List Token) (e e2 : Expression) (f f2 : Form) → e ≡ e2 → f ≡ f2 → IsTokenNext cs at old new e2 f2 → IsTokenNext cs at old new e f
   same_next new e e2 f f2 seen same h =
@@ -81,27 +142,35 @@ module _ (cs : List Placed) (at : ℕ) (old : List Token) where
   next-pseudo e p seen =
       same_next old e (expression.pseudo p) (token.pseudo p) (token.pseudo p) seen refl (no_argument (expression.pseudo p) (token.pseudo p) refl refl)
 
-  pub next-get_att : (e : Expression) (t a a2 : List ℕ) (n : ℕ) → e ≡ expression.get_att t a → n ≡ target cs t → a2 ≡ a → IsTokenNext cs at old old e (token.get_att n a2)
-  next-get_att e t a a2 n seen at_t same =
-      same_next old e (expression.get_att t a) (token.get_att n a2) (token.get_att (target cs t) a) seen (ap (λ k. token.get_att k a2) at_t ∙ ap (λ b. token.get_att (target cs t) b) same)
+  pub next-ref : (e : Expression) (t : List ℕ) (n : ℕ) → e ≡ expression.ref t → n ≡ target cs t → IsTokenNext cs at old old e (token.ref n)
+  next-ref e t n seen at_t =
+      same_next old e (expression.ref t) (token.ref n) (token.ref (target cs t)) seen (ap token.ref at_t) (no_argument (expression.ref t) (token.ref (target cs t)) refl refl)
+
+  pub next-lazy : (e : Expression) (t : List ℕ) (n : ℕ) → e ≡ expression.lazy t → n ≡ target cs t → IsTokenNext cs at old old e (token.lazy n)
+  next-lazy e t n seen at_t =
+      same_next old e (expression.lazy t) (token.lazy n) (token.lazy (target cs t)) seen (ap token.lazy at_t) (no_argument (expression.lazy t) (token.lazy (target cs t)) refl refl)
+
+  pub next-get_att : (e : Expression) (t a : List ℕ) → e ≡ expression.get_att t a → IsTokenNext cs at old old e (token.get_att (target cs t) a)
+  next-get_att e t a seen =
+      same_next old e (expression.get_att t a) (token.get_att (target cs t) a) (token.get_att (target cs t) a) seen refl
       (no_argument (expression.get_att t a) (token.get_att (target cs t) a) refl refl)
 
-  pub next-import_value : (e : Expression) (t t2 : List ℕ) → e ≡ expression.import_value t → t2 ≡ t → IsTokenNext cs at old old e (token.import_value t2)
-  next-import_value e t t2 seen same =
-      same_next old e (expression.import_value t) (token.import_value t2) (token.import_value t) seen (ap (λ s. token.import_value s) same)
+  pub next-import_value : (e : Expression) (t : List ℕ) → e ≡ expression.import_value t → IsTokenNext cs at old old e (token.import_value t)
+  next-import_value e t seen =
+      same_next old e (expression.import_value t) (token.import_value t) (token.import_value t) seen refl
       (no_argument (expression.import_value t) (token.import_value t) refl refl)
 
   module _ (new : List Token) (e x : Expression) (v : Data) (value : v ≡ marked cs at (length old) x) (more : new ≡ old ++ tokens cs at (length old) x) where
-    pub next-join : (d d2 : List ℕ) → e ≡ expression.join d x → d2 ≡ d → IsTokenNext cs at old new e (token.join d2 v)
-    next-join d d2 seen same =
+    pub next-join : (d : List ℕ) → e ≡ expression.join d x → IsTokenNext cs at old new e (token.join d v)
+    next-join d seen =
         let d_x = marked cs at (length old) x in
-        same_next new e (expression.join d x) (token.join d2 v) (token.join d d_x) seen (ap (λ s. token.join s v) same ∙ ap (λ u. token.join d u) value)
+        same_next new e (expression.join d x) (token.join d v) (token.join d d_x) seen (ap (λ u. token.join d u) value)
         (one_argument new x (expression.join d x) (token.join d d_x) more refl refl)
 
-    pub next-split : (d d2 : List ℕ) → e ≡ expression.split d x → d2 ≡ d → IsTokenNext cs at old new e (token.split d2 v)
-    next-split d d2 seen same =
+    pub next-split : (d : List ℕ) → e ≡ expression.split d x → IsTokenNext cs at old new e (token.split d v)
+    next-split d seen =
         let d_x = marked cs at (length old) x in
-        same_next new e (expression.split d x) (token.split d2 v) (token.split d d_x) seen (ap (λ s. token.split s v) same ∙ ap (λ u. token.split d u) value)
+        same_next new e (expression.split d x) (token.split d v) (token.split d d_x) seen (ap (λ u. token.split d u) value)
         (one_argument new x (expression.split d x) (token.split d d_x) more refl refl)
 
     pub next-select : (n : ℕ) → e ≡ expression.select n x → IsTokenNext cs at old new e (token.select n v)
