@@ -1,2 +1,3 @@
 mod Listing
 pub mod Parts
+pub mod Made

@@ -1,5 +1,5 @@
 -- What the loops over arrays and objects have found, put before the answer for the rest.
-use Rattle.std.proofs.Common.{◌≡◌, ℕ, List, [], ◌∷◌, ◌++◌, map, Ordering, Less, Equal, Greater, string_bytes, nat_cmp, refl, sym, ap, ◌∙◌}
+use Rattle.std.proofs.Common.{◌≡◌, ℕ, List, Option, Some, None, [], ◌∷◌, ◌++◌, map, Ordering, Less, Equal, Greater, string_bytes, nat_cmp, refl, sym, ap, ◌∙◌}
 use Rattle.std.specs.Prelude.{⊤}
 use Rattle.std.specs.Cmp.Lexicographic.{slice_cmp}
 use Rattle.std.specs.List.{AllByRecursion}
@@ -13,7 +13,9 @@ use Rattle.serde_json.specs.View.{view, members_view}
 use Rattle.serde_json.specs.declared.value.Value.{Value}
 use Rattle.serde_json.proofs.Views.{Entry}
 use Rattle.cdk_eval.specs.Outcomes.{Outcome, Listed, Lists, NotListed, first_item, array_outcome, Fielded, Has, NotFielded, first_member, object_outcome}
+use Rattle.cdk_eval.specs.declared.fault.EvalFault.{EvalFault}
 use Rattle.cdk_eval.specs.Outcomes as outcomes
+use Rattle.cdk_intrinsics.specs.Found.{fault_in, put_outcome}
 use Rattle.cdk_texts.specs.Steps.{values_before}
 use Rattle.cdk_texts.proofs.Cutting.{values_before-more, values_before-none}
 
@@ -86,3 +88,20 @@ all_above_put e es d ms sorted h i = each es sorted.0 i
 pub sorted_rest : (e : Entry) (es : List Entry) → IsStrictlySortedBy string_cmp (keys_of (e ∷ es)) → IsStrictlySortedBy string_cmp (keys_of es)
 unfolding IsStrictlySortedBy
 sorted_rest e es h = h.1
+
+-- ---- the next member's outcome
+
+pub fielded_next : (k : List ℕ) (o : Outcome) (ms : Members) (l : Fielded) → None ≡ fault_in o → IsAbove k ms → fielded_before ms (first_member k o l) ≡ fielded_before (put_outcome k o ms) l
+fielded_next k (outcomes.Value d) ms l e h = fielded_value k d ms l h
+fielded_next k outcomes.Gone ms l e h = refl
+fielded_next k (outcomes.Fault f) ms l e h = absurd (cc)
+
+pub all_above_next : (e : Entry) (es : List Entry) (o : Outcome) (ms : Members) → IsStrictlySortedBy string_cmp (keys_of (e ∷ es)) → IsAbove (string_bytes e.0) ms → AreAbove es ms → AreAbove es (put_outcome (string_bytes e.0) o ms)
+all_above_next e es (outcomes.Value d) ms sorted h i = all_above_put e es d ms sorted h i
+all_above_next e es outcomes.Gone ms sorted h i = i
+all_above_next e es (outcomes.Fault f) ms sorted h i = i
+
+pub fielded_fault : (k : List ℕ) (o : Outcome) (f : EvalFault) (ms : Members) (l : Fielded) → Some f ≡ fault_in o → object_outcome (fielded_before ms (first_member k o l)) ≡ outcomes.Fault f
+fielded_fault k (outcomes.Value d) f ms l e = absurd (cc)
+fielded_fault k outcomes.Gone f ms l e = absurd (cc)
+fielded_fault k (outcomes.Fault g) f ms l e = let same : g ≡ f = cc in ap outcomes.Fault same

@@ -1,6 +1,6 @@
 -- The parts of a Sub's text, and the forms of intrinsics whose arguments have a wrong number.
 use Rattle.std.proofs.Common.{String, Global, string_bytes, rules, ◌≡◌, ◌≢◌, ℕ, List, [], ◌∷◌, ◌++◌, length, map, Bool, true, false, Option, Some, None, refl, sym, ap, ◌∙◌, arith, append_assoc, append-nil}
-use Rattle.std.specs.Prelude.{bytes_eq, if◌then◌else◌}
+use Rattle.std.specs.Prelude.{◌&&◌, bytes_eq, codes, if◌then◌else◌}
 use Rattle.serde_json.specs.Data.{Data, string, array, object, Items, no_items, item, Members}
 use Rattle.serde_json.specs.View.{view, items_view}
 use Rattle.serde_json.specs.declared.value.Value.{Value, the_lemmas}
@@ -8,16 +8,16 @@ use Rattle.serde_json.specs.declared.value.Value.TheVariants as values
 use Rattle.cdk_base.specs.Json.{text_of}
 use Rattle.cdk_eval.specs.declared.fault.EvalFault.{EvalFault}
 use Rattle.cdk_eval.specs.declared.fault.EvalFault.TheVariants.{NotText, BadIntrinsic}
-use Rattle.cdk_eval.specs.Outcomes.{Outcome, Gone, Fault, Listed, Lists, NotListed, first_item, on_text, on_some_text, OutputText, OutputFault}
+use Rattle.cdk_eval.specs.Outcomes.{Outcome, Gone, Fault, Listed, Lists, NotListed, array_outcome, first_item, before_fault, on_text, on_some_text}
 use Rattle.cdk_eval.specs.Outcomes as outcomes
 use Rattle.cdk_eval.specs.SubText.{SubPart, literal, hole, Asked, spelled, attribute_of, named, asked, sub_parts}
-use Rattle.cdk_eval.specs.Stack.{text_outcome, some_text}
-use Rattle.cdk_eval.specs.Template.{Scope, parts, item_parts, att_form, if_form, map_form, sub_form, sub_items, sub_part_outcome, asked_outcome, named_or, ref_outcome, join_texts, outcome, sub_args, members_of, sub_outcome, each_member}
+use Rattle.cdk_eval.specs.Template.{Scope, Part, parts, item_parts, item_outcomes, ref_form, att_form, join_form, select_form, split_form, if_form, map_form, import_form, sub_form, form_outcome, is_barred_key, sub_items, sub_part_outcome, asked_outcome, named_or, ref_outcome, join_texts, outcome, sub_args, members_of, sub_outcome, each_member}
 use Rattle.cdk_eval.specs.Texts.{item_texts, text_before, join_with, with_before}
-use Rattle.cdk_intrinsics.specs.Forms.{pair_form, map_args}
+use Rattle.cdk_intrinsics.specs.Forms.{pair_form, leaf_at, leaf_among, map_listed, intrinsic_at, where_there}
 use Rattle.cdk_intrinsics.specs.Substitution.{items_by, part_by, asked_by, AreUsed, IsUsedAt, IsUsedIn, IsPieceOf, text_and, finish, joined_items}
 use Rattle.cdk_intrinsics.specs.declared.forms.PairForm.{PairForm}
 use Rattle.cdk_intrinsics.specs.declared.forms.PairForm.TheVariants.{Join, Select, Split}
+use Rattle.cdk_intrinsics.specs.declared.intrinsic.Intrinsic.TheVariants as intrinsics
 
 -- ---- a wrong number of arguments
 
@@ -138,25 +138,98 @@ finish_fault h t o f l e = ap (λ x. finish h t (first_item x l)) e
 pub finish_gone : (h : Bool) (t : List ℕ) (o : Outcome) (l : Listed) → o ≡ Gone → finish h t (first_item o l) ≡ finish h t l
 finish_gone h t o l e = ap (λ x. finish h t (first_item x l)) e
 
--- ---- texts of outcomes
+-- ---- the intrinsic of a key
 
-pub text_ok : (f : List ℕ → Outcome) (o : Outcome) (t : List ℕ) → OutputText t ≡ text_outcome o → on_text f o ≡ f t
-text_ok f (outcomes.Value d) t e = at (text_of d) e
+pub form_same : (s : Scope) (k : List ℕ) (d : Data) (o : Outcome) (ps : List Part) → form_outcome s k d o ps ≡ where_there s (intrinsic_at k s.is_operand) d o ps
+form_same s k d o ps =
+    at (is_barred_key k && s.is_operand) (bytes_eq k (codes "Ref")) (bytes_eq k (codes "Fn::GetAtt")) (bytes_eq k (codes "Fn::Join")) (bytes_eq k (codes "Fn::Select")) (bytes_eq k (codes "Fn::Split"))
+    (bytes_eq k (codes "Fn::Sub")) (bytes_eq k (codes "Fn::If")) (bytes_eq k (codes "Fn::FindInMap")) (bytes_eq k (codes "Fn::ImportValue"))
   where
-    at : (o : Option (List ℕ)) → OutputText t ≡ some_text o → on_some_text f o ≡ f t
-    at None e = cc
-    at (Some u) e = let same : u ≡ t = cc in ap f same
-text_ok f Gone t e = cc
-text_ok f (Fault g) t e = cc
+    at : (barred ref att join select split sub cond map import : Bool) → (
+        if barred then Fault BadIntrinsic
+        else (if ref then ref_form s d
+        else (if att then att_form s ps
+        else (if join then join_form ps
+        else (if select then select_form ps
+        else (if split then split_form ps
+        else (if sub then sub_form s d ps
+        else (if cond then if_form s ps
+        else (if map then map_form s ps
+        else (if import then import_form s o
+        else Fault BadIntrinsic)))))))))
+        )
+        ≡ where_there s (
+        if barred then None
+        else (if ref then Some intrinsics.Ref
+        else (if att then Some intrinsics.GetAtt
+        else (if join then Some (intrinsics.Pair Join)
+        else (if select then Some (intrinsics.Pair Select)
+        else (if split then Some (intrinsics.Pair Split)
+        else (if sub then Some intrinsics.Sub
+        else (if cond then Some intrinsics.If
+        else (if map then Some intrinsics.FindInMap
+        else (if import then Some intrinsics.ImportValue
+        else None)))))))))
+        ) d o ps
+    at true _ _ _ _ _ _ _ _ _ = refl
+    at false true _ _ _ _ _ _ _ _ = refl
+    at false false true _ _ _ _ _ _ _ = refl
+    at false false false true _ _ _ _ _ _ = refl
+    at false false false false true _ _ _ _ _ = refl
+    at false false false false false true _ _ _ _ = refl
+    at false false false false false false true _ _ _ = refl
+    at false false false false false false false true _ _ = refl
+    at false false false false false false false false true _ = refl
+    at false false false false false false false false false true = refl
+    at false false false false false false false false false false = refl
 
-pub text_err : (f : List ℕ → Outcome) (o : Outcome) (g : EvalFault) → OutputFault g ≡ text_outcome o → on_text f o ≡ Fault g
-text_err f (outcomes.Value d) g e = at (text_of d) e
-  where
-    at : (o : Option (List ℕ)) → OutputFault g ≡ some_text o → on_some_text f o ≡ Fault g
-    at None e = let same : NotText ≡ g = cc in ap Fault same
-    at (Some u) e = cc
-text_err f Gone g e = let same : NotText ≡ g = cc in ap Fault same
-text_err f (Fault h) g e = let same : h ≡ g = cc in ap Fault same
+-- ---- `Fn::FindInMap` at its arguments as an array
+
+no_text : (o : Option (List ℕ)) → on_some_text (λ t. Fault NotText) o ≡ Fault NotText
+no_text None = refl
+no_text (Some t) = refl
+
+module _ (s : Scope) where
+  leaf_of_three : (m x y : Option (List ℕ)) → on_some_text (λ a. on_some_text (λ b. on_some_text (λ c. s.leaf a b c) y) x) m ≡ leaf_at s m x y
+  leaf_of_three None x y = refl
+  leaf_of_three (Some a) None y = refl
+  leaf_of_three (Some a) (Some b) None = refl
+  leaf_of_three (Some a) (Some b) (Some c) = refl
+
+  map_as_array : (m x y : Outcome)
+      → before_fault m (before_fault x (before_fault y (on_text (λ a. on_text (λ b. on_text (λ c. s.leaf a b c) y) x) m))) ≡ map_listed s (array_outcome (first_item m (first_item x (first_item y (Lists no_items)))))
+  map_as_array (Fault f) x y = refl
+  map_as_array Gone (Fault f) y = refl
+  map_as_array Gone Gone (Fault f) = refl
+  map_as_array Gone Gone Gone = refl
+  map_as_array Gone Gone (outcomes.Value c) = refl
+  map_as_array Gone (outcomes.Value b) (Fault f) = refl
+  map_as_array Gone (outcomes.Value b) Gone = refl
+  map_as_array Gone (outcomes.Value b) (outcomes.Value c) = refl
+  map_as_array (outcomes.Value a) (Fault f) y = refl
+  map_as_array (outcomes.Value a) Gone (Fault f) = refl
+  map_as_array (outcomes.Value a) Gone Gone = no_text (text_of a)
+  map_as_array (outcomes.Value a) Gone (outcomes.Value c) = no_text (text_of a)
+  map_as_array (outcomes.Value a) (outcomes.Value b) (Fault f) = refl
+  map_as_array (outcomes.Value a) (outcomes.Value b) Gone = ap (λ o. on_some_text (λ t. o) (text_of a)) (no_text (text_of b)) ∙ no_text (text_of a)
+  map_as_array (outcomes.Value a) (outcomes.Value b) (outcomes.Value c) = leaf_of_three (text_of a) (text_of b) (text_of c)
+
+  pub map_three : (vs : List Value) (v w x : Value) → vs ≡ v ∷ w ∷ x ∷ [] → map_form s (item_parts s (items_view vs)) ≡ map_listed s (array_outcome (item_outcomes s (items_view vs)))
+  map_three vs v w x e =
+      ap (λ us. map_form s (item_parts s (items_view us))) e ∙ map_as_array (outcome s (view v)) (outcome s (view w)) (outcome s (view x))
+      ∙ sym (ap (λ us. map_listed s (array_outcome (item_outcomes s (items_view us)))) e)
+
+  pub leaf_other : (vs : List Value) → length vs ≢ 3 → Fault NotText ≡ leaf_among s (items_view vs)
+  leaf_other [] h = refl
+  leaf_other (v ∷ []) h = refl
+  leaf_other (v ∷ w ∷ []) h = refl
+  leaf_other (v ∷ w ∷ x ∷ []) h = absurd (h refl)
+  leaf_other (v ∷ w ∷ x ∷ y ∷ vs) h = refl
+
+  -- the texts of three values
+  pub leaf_three : (vs : List Value) (v w x : Value) (m t u : Option (List ℕ)) → vs ≡ v ∷ w ∷ x ∷ [] → m ≡ text_of (view v) → t ≡ text_of (view w) → u ≡ text_of (view x) → leaf_at s m t u ≡ leaf_among s (items_view vs)
+  leaf_three vs v w x m t u e em et eu =
+      ap (λ o. leaf_at s o t u) em ∙ ap (λ o. leaf_at s (text_of (view v)) o u) et ∙ ap (λ o. leaf_at s (text_of (view v)) (text_of (view w)) o) eu ∙ sym (ap (λ us. leaf_among s (items_view us)) e)
 
 -- ---- the right number of arguments
 
@@ -164,9 +237,6 @@ pub view-String : (t : String Global) → view (values.String t) ≡ string (str
 view-String t = search (rules, the_lemmas)
 
 module _ (s : Scope) where
-  pub map_three : (vs : List Value) (v w x : Value) → vs ≡ v ∷ w ∷ x ∷ [] → map_form s (item_parts s (items_view vs)) ≡ map_args s (outcome s (view v)) (outcome s (view w)) (outcome s (view x))
-  map_three vs v w x e = ap (λ us. map_form s (item_parts s (items_view us))) e
-
   pub sub_two : (vs : List Value) (t n : Value) (u : List ℕ) (ms : Members) (ps : List SubPart) → vs ≡ t ∷ n ∷ [] → view t ≡ string u → view n ≡ object ms → Some ps ≡ sub_parts u
       → sub_form s (array (items_view vs)) (item_parts s (items_view vs)) ≡ joined_items (sub_items s (each_member s ms) ps)
   sub_two vs t n u ms ps e et en ep =

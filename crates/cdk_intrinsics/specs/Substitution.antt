@@ -3,12 +3,14 @@ use Rattle.std.specs.Prelude.{◌≡◌, ℕ, List, [], ◌∷◌, ◌++◌, Boo
 use Rattle.std.specs.Ordering.{nat_cmp}
 use Rattle.std.specs.Cmp.Lexicographic.{slice_cmp}
 use Rattle.std.specs.BTreeMap.{get_by}
-use Rattle.serde_json.specs.Data.{Data, string, no_items}
+use Rattle.serde_json.specs.Data.{Data, string, array, no_items}
+use Rattle.serde_json.specs.View.{items_view}
+use Rattle.serde_json.specs.declared.value.Value.{Value as RustValue}
 use Rattle.cdk_base.specs.Json.{text_of}
-use Rattle.cdk_eval.specs.declared.fault.EvalFault.TheVariants.{NotText}
+use Rattle.cdk_eval.specs.declared.fault.EvalFault.TheVariants.{NotText, BadIntrinsic}
 use Rattle.cdk_eval.specs.Outcomes.{Outcome, Value, Gone, Fault, Listed, Lists, NotListed, first_item, array_outcome, on_items}
 use Rattle.cdk_eval.specs.SubText.{SubPart, literal, hole, Asked, spelled, attribute_of, named, asked}
-use Rattle.cdk_eval.specs.Template.{Scope, ref_outcome, join_texts, named_or}
+use Rattle.cdk_eval.specs.Template.{Scope, ref_outcome, join_texts, named_or, sub_form, item_parts}
 use Rattle.cdk_eval.specs.Texts.{item_texts, join_with}
 use Rattle.cdk_eval.specs.Views.{outcome_view}
 use Rattle.cdk_intrinsics.specs.Scopes.{has_name}
@@ -86,3 +88,9 @@ text_and _ t _ = Fault NotText
 abbrev pub finish : Bool → List ℕ → Listed → Outcome
 finish has_text t (Lists ds) = text_and has_text t (item_texts ds)
 finish has_text t (NotListed f) = Fault f
+
+-- ---- the arguments
+
+-- values that are no text and object
+abbrev pub IsNoSub : List RustValue → Type 0
+IsNoSub vs = (s : Scope) → Fault BadIntrinsic ≡ sub_form s (array (items_view vs)) (item_parts s (items_view vs))

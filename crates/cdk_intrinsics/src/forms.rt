@@ -1,14 +1,15 @@
 // The intrinsics at their arguments, once these are evaluated (CloudFormation's intrinsic function reference).
 ghost use Rattle.std.specs.Prelude.{◌≡◌, ◌&&◌, [], ◌∷◌, IfOk, MatchOption, length, ◌≢◌};
-ghost use Rattle.serde_json.specs.View.{view, number_view, members_view};
+ghost use Rattle.serde_json.specs.declared.value.Value.TheVariants as values;
+ghost use Rattle.serde_json.specs.View.{view, number_view, items_view, members_view};
 ghost use Rattle.cdk_base.specs.Json.{is_intrinsic_key as spec_is_intrinsic_key};
-ghost use Rattle.cdk_eval.specs.Outcomes.{on_text};
 ghost use Rattle.cdk_eval.specs.Template.{parts, number_outcome as spec_number_outcome, has_intrinsic_key as spec_has_intrinsic_key, is_barred_key, ref_form as spec_ref_form, att_form as spec_att_form, import_form, join_args as spec_join_args, select_args as spec_select_args, split_args as spec_split_args};
 ghost use Rattle.cdk_eval.specs.Texts.{index_of as spec_index_of};
 ghost use Rattle.cdk_eval.specs.Views.{outcome_view};
 ghost use Rattle.cdk_eval.specs.Stack.{text_outcome as spec_text_outcome};
-ghost use Rattle.cdk_intrinsics.specs.Forms.{pair_args, map_args, told};
+ghost use Rattle.cdk_intrinsics.specs.Forms.{pair_args, leaf_among as spec_leaf_among, map_listed, told};
 ghost use Rattle.cdk_intrinsics.specs.Scopes.{scope_view, IsSound};
+ghost use Rattle.cdk_intrinsics.specs.Substitution.{IsNoSub};
 
 use crate::Scope;
 use crate::names::{attribute_outcome, export, is_operand, leaf_of, ref_outcome};
@@ -46,6 +47,22 @@ pub fn three_of(items: &Vec<Value>) -> Option<(&Value, &Value, &Value)>
         [first, second, third] => Some((first, second, third)),
         _ => None,
     }
+}
+
+/// The text and the object of names, where the items are these two.
+pub fn text_and_names(items: &Vec<Value>) -> Option<(&String, &Map)>
+    ensures { MatchOption result (IsNoSub items.now.items) (λ p. items.now.items ≡ values.String p.0.now ∷ values.Object p.1.now ∷ []) }
+{
+    let Some((text, names)) = two_of(items) else {
+        return None;
+    };
+    let Value::String(text) = text else {
+        return None;
+    };
+    let Value::Object(names) = names else {
+        return None;
+    };
+    Some((text, names))
 }
 
 fn is_intrinsic_key(key: &str) -> bool
@@ -138,15 +155,15 @@ pub fn text_in(alloc: Global, outcome: &Outcome) -> Result<Result<Text, EvalFaul
     }
 }
 
-fn join_args(alloc: Global, delimiter: &Value, list: Outcome) -> Result<Outcome, AllocError>
-    ensures { IfOk result (λ o. outcome_view o ≡ spec_join_args (view delimiter.now) (outcome_view list)) }
+fn join_args(alloc: Global, delimiter: &Value, list: &Outcome) -> Result<Outcome, AllocError>
+    ensures { IfOk result (λ o. outcome_view o ≡ spec_join_args (view delimiter.now) (outcome_view list.now)) }
 {
     let Value::String(delimiter) = delimiter else {
         return Ok(Outcome::Fault(EvalFault::BadIntrinsic));
     };
     let list = match list {
         Outcome::Value(Value::Array(list)) => list,
-        Outcome::Fault(fault) => return Ok(Outcome::Fault(fault)),
+        Outcome::Fault(fault) => return Ok(Outcome::Fault(*fault)),
         _ => return Ok(Outcome::Fault(EvalFault::NotText)),
     };
     match joined(alloc, delimiter.as_str(), list.as_slice())? {
@@ -155,8 +172,8 @@ fn join_args(alloc: Global, delimiter: &Value, list: Outcome) -> Result<Outcome,
     }
 }
 
-fn select_args(alloc: Global, index: &Value, list: Outcome) -> Result<Outcome, AllocError>
-    ensures { IfOk result (λ o. outcome_view o ≡ spec_select_args (spec_index_of (view index.now)) (outcome_view list)) }
+fn select_args(alloc: Global, index: &Value, list: &Outcome) -> Result<Outcome, AllocError>
+    ensures { IfOk result (λ o. outcome_view o ≡ spec_select_args (spec_index_of (view index.now)) (outcome_view list.now)) }
 {
     let Some(index) = index_of(alloc, index)? else {
         return Ok(Outcome::Fault(EvalFault::BadIntrinsic));
@@ -164,7 +181,7 @@ fn select_args(alloc: Global, index: &Value, list: Outcome) -> Result<Outcome, A
     let list = match list {
         Outcome::Value(list) => list,
         Outcome::Gone => return Ok(Outcome::Fault(EvalFault::NotText)),
-        Outcome::Fault(fault) => return Ok(Outcome::Fault(fault)),
+        Outcome::Fault(fault) => return Ok(Outcome::Fault(*fault)),
     };
     if !list.is_array() {
         return Ok(Outcome::Fault(EvalFault::NotText));
@@ -175,8 +192,8 @@ fn select_args(alloc: Global, index: &Value, list: Outcome) -> Result<Outcome, A
     }
 }
 
-fn split_args(alloc: Global, delimiter: &Value, text: Outcome) -> Result<Outcome, AllocError>
-    ensures { IfOk result (λ o. outcome_view o ≡ spec_split_args (view delimiter.now) (outcome_view text)) }
+fn split_args(alloc: Global, delimiter: &Value, text: &Outcome) -> Result<Outcome, AllocError>
+    ensures { IfOk result (λ o. outcome_view o ≡ spec_split_args (view delimiter.now) (outcome_view text.now)) }
 {
     let Value::String(delimiter) = delimiter else {
         return Ok(Outcome::Fault(EvalFault::BadIntrinsic));
@@ -184,7 +201,7 @@ fn split_args(alloc: Global, delimiter: &Value, text: Outcome) -> Result<Outcome
     if delimiter.is_empty() {
         return Ok(Outcome::Fault(EvalFault::BadIntrinsic));
     }
-    match text_in(alloc, &text)? {
+    match text_in(alloc, text)? {
         Ok(text) => {
             let items = cut(alloc, delimiter.as_str(), text.as_str())?;
             Ok(Outcome::Value(Value::Array(items)))
@@ -198,9 +215,9 @@ pub fn pair_outcome(
     alloc: Global,
     form: PairForm,
     first: &Value,
-    second: Outcome,
+    second: &Outcome,
 ) -> Result<Outcome, AllocError>
-    ensures { IfOk result (λ o. outcome_view o ≡ pair_args form (view first.now) (outcome_view second)) }
+    ensures { IfOk result (λ o. outcome_view o ≡ pair_args form (view first.now) (outcome_view second.now)) }
 {
     match form {
         PairForm::Join => join_args(alloc, first, second),
@@ -226,26 +243,24 @@ pub fn import_outcome(
     }
 }
 
-fn leaf_by_texts(
+fn leaf_among(
     alloc: Global,
     scope: &Scope<'_, '_>,
-    mapping: &Outcome,
-    top: &Outcome,
-    second: &Outcome,
+    names: &Vec<Value>,
 ) -> Result<Outcome, AllocError>
-    ensures { IfOk result (λ o. outcome_view o ≡ on_text (λ a. on_text (λ b. on_text (λ c. (scope_view scope.now).leaf a b c) (outcome_view second.now)) (outcome_view top.now)) (outcome_view mapping.now)) }
+    ensures { IfOk result (λ o. outcome_view o ≡ spec_leaf_among (scope_view scope.now) (items_view names.now.items)) }
 {
-    let mapping = match text_in(alloc, mapping)? {
-        Ok(text) => text,
-        Err(fault) => return Ok(Outcome::Fault(fault)),
+    let Some((mapping, top, second)) = three_of(names) else {
+        return Ok(Outcome::Fault(EvalFault::NotText));
     };
-    let top = match text_in(alloc, top)? {
-        Ok(text) => text,
-        Err(fault) => return Ok(Outcome::Fault(fault)),
+    let Some(mapping) = text_of(alloc, mapping)? else {
+        return Ok(Outcome::Fault(EvalFault::NotText));
     };
-    let second = match text_in(alloc, second)? {
-        Ok(text) => text,
-        Err(fault) => return Ok(Outcome::Fault(fault)),
+    let Some(top) = text_of(alloc, top)? else {
+        return Ok(Outcome::Fault(EvalFault::NotText));
+    };
+    let Some(second) = text_of(alloc, second)? else {
+        return Ok(Outcome::Fault(EvalFault::NotText));
     };
     leaf_of(
         alloc,
@@ -256,24 +271,17 @@ fn leaf_by_texts(
     )
 }
 
-/// `Fn::FindInMap` at its arguments, evaluated.
+/// `Fn::FindInMap` at its three arguments, evaluated as an array, which leaves out those that are gone.
 pub fn leaf_outcome(
     alloc: Global,
     scope: &Scope<'_, '_>,
-    mapping: &Outcome,
-    top: &Outcome,
-    second: &Outcome,
+    names: &Outcome,
 ) -> Result<Outcome, AllocError>
-    ensures { IfOk result (λ o. outcome_view o ≡ map_args (scope_view scope.now) (outcome_view mapping.now) (outcome_view top.now) (outcome_view second.now)) }
+    ensures { IfOk result (λ o. outcome_view o ≡ map_listed (scope_view scope.now) (outcome_view names.now)) }
 {
-    if let Outcome::Fault(fault) = mapping {
-        return Ok(Outcome::Fault(*fault));
+    match names {
+        Outcome::Value(Value::Array(names)) => leaf_among(alloc, scope, names),
+        Outcome::Fault(fault) => Ok(Outcome::Fault(*fault)),
+        _ => Ok(Outcome::Fault(EvalFault::NotText)),
     }
-    if let Outcome::Fault(fault) = top {
-        return Ok(Outcome::Fault(*fault));
-    }
-    if let Outcome::Fault(fault) = second {
-        return Ok(Outcome::Fault(*fault));
-    }
-    leaf_by_texts(alloc, scope, mapping, top, second)
 }

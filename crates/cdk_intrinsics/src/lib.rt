@@ -4,6 +4,8 @@
 mod entries;
 mod exports;
 mod forms;
+mod found;
+mod intrinsic;
 mod name_set;
 mod names;
 mod resources;

@@ -1,5 +1,5 @@
 // The text of a `Fn::Sub`, its parts evaluated and joined (CloudFormation: Fn::Sub).
-ghost use Rattle.std.specs.Prelude.{◌≡◌, ℕ, List, [], Bool, true, Some, None, OnOk, IfOk, map, if◌then◌else◌, bytes_eq, is_some, option_copied, option_map};
+ghost use Rattle.std.specs.Prelude.{◌≡◌, ◌&&◌, not, ℕ, List, [], Bool, true, Some, None, OnOk, IfOk, map, if◌then◌else◌, bytes_eq, is_some, option_copied, option_map};
 ghost use Rattle.cdk_eval.specs.SubText.{sub_parts as spec_sub_parts, asked};
 ghost use Rattle.cdk_eval.specs.Template.{sub_outcome as spec_sub_outcome, ref_outcome as spec_ref_outcome};
 ghost use Rattle.cdk_eval.specs.Views.{outcome_view};
@@ -71,6 +71,13 @@ pub fn used_names<'a>(alloc: Global, parts: &[Part<'a>]) -> Result<NameSet<'a>, 
         put_used(&mut used, part)?;
     }
     Ok(used)
+}
+
+/// Whether the text names the member, and none of its name is kept yet.
+pub fn is_wanted(used: &NameSet<'_>, named: &Named<'_>, name: &str) -> bool
+    ensures { result ≡ (has_name used.now name.now && not (is_some (named_at named.now name.now))) }
+{
+    used.has(name) && !named.has(name)
 }
 
 /// The text of a part, gone as none, or the part's fault. A value without a text has the fault `NotText`, told last.

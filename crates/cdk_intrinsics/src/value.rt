@@ -3,18 +3,20 @@ ghost use Rattle.std.specs.Prelude.{◌≡◌, IfOk};
 ghost use Rattle.serde_json.specs.Data.{array};
 ghost use Rattle.serde_json.specs.View.{view, items_view, members_view};
 ghost use Rattle.cdk_eval.specs.Outcomes.{array_outcome as spec_array_outcome, object_outcome as spec_object_outcome};
-ghost use Rattle.cdk_eval.specs.Template.{outcome, item_outcomes, member_outcomes, single_form as spec_single_form, form_outcome as spec_form_outcome, if_form as spec_if_form, map_form as spec_map_form, sub_form as spec_sub_form, parts, item_parts, each_member};
+ghost use Rattle.cdk_eval.specs.Template.{outcome, item_outcomes, member_outcomes, single_form as spec_single_form, if_form as spec_if_form, map_form as spec_map_form, sub_form as spec_sub_form, parts, item_parts, each_member};
 ghost use Rattle.cdk_eval.specs.Views.{outcome_view};
-ghost use Rattle.cdk_intrinsics.specs.Forms.{pair_form as spec_pair_form};
+ghost use Rattle.cdk_intrinsics.specs.Forms.{pair_form as spec_pair_form, at_argument};
 ghost use Rattle.cdk_intrinsics.specs.Scopes.{scope_view, IsSound};
 ghost use Rattle.cdk_intrinsics.specs.Substitution.{HasUsed};
 
 use crate::forms::{
-    PairForm, att_form, has_intrinsic_key, import_outcome, is_barred, leaf_outcome, number_outcome,
-    pair_outcome, ref_form, three_of, two_of,
+    PairForm, att_form, has_intrinsic_key, import_outcome, leaf_outcome, number_outcome,
+    pair_outcome, ref_form, text_and_names, three_of, two_of,
 };
+use crate::found::put_outcome;
+use crate::intrinsic::{Intrinsic, intrinsic_at};
 use crate::names::condition;
-use crate::substitution::{Named, plain_sub, sub_outcome, used_names};
+use crate::substitution::{Named, is_wanted, plain_sub, sub_outcome, used_names};
 use crate::{NameSet, Scope};
 use cdk_base::{Map, Value};
 use cdk_eval::{EvalFault, Outcome, Truth};
@@ -78,13 +80,9 @@ fn object_outcome(
 {
     let mut found = Map::new(alloc);
     for (key, member) in members.iter() {
-        match outcome_of(alloc, scope, member)? {
-            Outcome::Value(value) => {
-                let key = key.clone()?;
-                drop(found.insert(key, value)?);
-            }
-            Outcome::Gone => {}
-            Outcome::Fault(fault) => return Ok(Outcome::Fault(fault)),
+        let outcome = outcome_of(alloc, scope, member)?;
+        if let Some(fault) = put_outcome(&mut found, key, outcome)? {
+            return Ok(Outcome::Fault(fault));
         }
     }
     Ok(Outcome::Value(Value::Object(found)))
@@ -103,52 +101,35 @@ fn single_form(alloc: Global, scope: &Scope<'_, '_>, members: &Map) -> Result<Ou
     if entries.next().is_some() {
         return Ok(Outcome::Fault(EvalFault::BadIntrinsic));
     }
-    form_outcome(alloc, scope, key.as_str(), argument)
+    match intrinsic_at(scope, key.as_str()) {
+        Some(intrinsic) => form_outcome(alloc, scope, intrinsic, argument),
+        None => Ok(Outcome::Fault(EvalFault::BadIntrinsic)),
+    }
 }
 
-/// The outcome of the intrinsic of a key at its argument.
+/// The outcome of an intrinsic at its argument.
 #[cycle(evaluation)]
 fn form_outcome(
     alloc: Global,
     scope: &Scope<'_, '_>,
-    key: &str,
+    intrinsic: Intrinsic,
     argument: &Value,
 ) -> Result<Outcome, AllocError>
     requires { IsSound scope.now }
-    ensures { IfOk result (λ o. outcome_view o ≡ spec_form_outcome (scope_view scope.now) key.now (view argument.now) (outcome (scope_view scope.now) (view argument.now)) (parts (scope_view scope.now) (view argument.now))) }
+    ensures { IfOk result (λ o. outcome_view o ≡ at_argument (scope_view scope.now) intrinsic (view argument.now) (outcome (scope_view scope.now) (view argument.now)) (parts (scope_view scope.now) (view argument.now))) }
 {
-    if is_barred(scope, key) {
-        return Ok(Outcome::Fault(EvalFault::BadIntrinsic));
+    match intrinsic {
+        Intrinsic::Ref => ref_form(alloc, scope, argument),
+        Intrinsic::GetAtt => att_form(alloc, scope, argument),
+        Intrinsic::Pair(form) => pair_form(alloc, scope, form, argument),
+        Intrinsic::Sub => sub_form(alloc, scope, argument),
+        Intrinsic::If => if_form(alloc, scope, argument),
+        Intrinsic::FindInMap => map_form(alloc, scope, argument),
+        Intrinsic::ImportValue => {
+            let name = outcome_of(alloc, scope, argument)?;
+            import_outcome(alloc, scope, &name)
+        }
     }
-    if key == "Ref" {
-        return ref_form(alloc, scope, argument);
-    }
-    if key == "Fn::GetAtt" {
-        return att_form(alloc, scope, argument);
-    }
-    if key == "Fn::Join" {
-        return pair_form(alloc, scope, PairForm::Join, argument);
-    }
-    if key == "Fn::Select" {
-        return pair_form(alloc, scope, PairForm::Select, argument);
-    }
-    if key == "Fn::Split" {
-        return pair_form(alloc, scope, PairForm::Split, argument);
-    }
-    if key == "Fn::Sub" {
-        return sub_form(alloc, scope, argument);
-    }
-    if key == "Fn::If" {
-        return if_form(alloc, scope, argument);
-    }
-    if key == "Fn::FindInMap" {
-        return map_form(alloc, scope, argument);
-    }
-    if key == "Fn::ImportValue" {
-        let name = outcome_of(alloc, scope, argument)?;
-        return import_outcome(alloc, scope, &name);
-    }
-    Ok(Outcome::Fault(EvalFault::BadIntrinsic))
 }
 
 /// `Fn::Join`, `Fn::Select` and `Fn::Split`: the second of two arguments is evaluated.
@@ -169,7 +150,7 @@ fn pair_form(
         return Ok(Outcome::Fault(EvalFault::BadIntrinsic));
     };
     let second = outcome_of(alloc, scope, second)?;
-    pair_outcome(alloc, form, first, second)
+    pair_outcome(alloc, form, first, &second)
 }
 
 /// `Fn::If`: the branch that the condition picks is evaluated, and the other isn't.
@@ -203,13 +184,11 @@ fn map_form(alloc: Global, scope: &Scope<'_, '_>, argument: &Value) -> Result<Ou
     let Value::Array(items) = argument else {
         return Ok(Outcome::Fault(EvalFault::BadIntrinsic));
     };
-    let Some((mapping, top, second)) = three_of(items) else {
+    let Some((_mapping, _top, _second)) = three_of(items) else {
         return Ok(Outcome::Fault(EvalFault::BadIntrinsic));
     };
-    let mapping = outcome_of(alloc, scope, mapping)?;
-    let top = outcome_of(alloc, scope, top)?;
-    let second = outcome_of(alloc, scope, second)?;
-    leaf_outcome(alloc, scope, &mapping, &top, &second)
+    let names = array_outcome(alloc, scope, items)?;
+    leaf_outcome(alloc, scope, &names)
 }
 
 /// `Fn::Sub` of a text, or of a text and an object of names.
@@ -234,13 +213,7 @@ fn named_sub(
     requires { IsSound scope.now }
     ensures { IfOk result (λ o. outcome_view o ≡ spec_sub_form (scope_view scope.now) (array (items_view items.now.items)) (item_parts (scope_view scope.now) (items_view items.now.items))) }
 {
-    let Some((text, names)) = two_of(items) else {
-        return Ok(Outcome::Fault(EvalFault::BadIntrinsic));
-    };
-    let Value::String(text) = text else {
-        return Ok(Outcome::Fault(EvalFault::BadIntrinsic));
-    };
-    let Value::Object(members) = names else {
+    let Some((text, members)) = text_and_names(items) else {
         return Ok(Outcome::Fault(EvalFault::BadIntrinsic));
     };
     let Some(parts) = sub_parts(alloc, text.as_str())? else {
@@ -265,7 +238,7 @@ fn named_outcomes<'a>(
     let mut named = Named::new(alloc);
     for (key, member) in members.iter() {
         let key = key.as_str();
-        if used.has(key) && !named.has(key) {
+        if is_wanted(used, &named, key) {
             let outcome = outcome_of(alloc, scope, member)?;
             named.keep(key, outcome)?;
         }

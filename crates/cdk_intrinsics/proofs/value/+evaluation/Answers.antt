@@ -1,24 +1,26 @@
 use Rattle.std.proofs.Common.{◌≡◌, ◌+◌, [], ◌∷◌, drop, map, length, Some, option_map, string_bytes, sym, ap, ◌∙◌, subst, arith, rules}
 use Rattle.std.proofs.lemmas.List.{drop_more, drop_all}
 use Rattle.std.proofs.lemmas.Result.{IfOk-weaker}
-use Rattle.serde_json.specs.Data.{array, object, no_members, put}
+use Rattle.serde_json.specs.Data.{array, object, no_members}
 use Rattle.std.specs.List.Sorted.{IsStrictlySortedBy}
 use Rattle.std.specs.Map.{keys_of}
 use Rattle.std.specs.String.{string_cmp}
 use Rattle.serde_json.specs.View.{view, items_view, members_view}
-use Rattle.serde_json.proofs.Views.{Entry, view-Array, view-Object, members_view-insert_entry}
+use Rattle.serde_json.specs.declared.value.Value.TheVariants as values
+use Rattle.serde_json.proofs.Views.{Entry, view-Array, view-Object}
 use Rattle.cdk_eval.specs.Outcomes.{array_outcome, object_outcome, first_item, first_member}
 use Rattle.cdk_eval.specs.Outcomes as outcomes
 use Rattle.cdk_eval.specs.SubText.{sub_parts}
-use Rattle.cdk_eval.specs.Template.{parts, outcome, item_outcomes, member_outcomes, if_form, map_form, sub_form, sub_items, each_member}
+use Rattle.cdk_eval.specs.Template.{parts, outcome, item_outcomes, member_outcomes, single_form, if_form, map_form, sub_form, sub_items, each_member}
 use Rattle.cdk_eval.specs.Views.{outcome_view}
 use Rattle.cdk_texts.specs.Steps.{part_view}
 use Rattle.cdk_texts.proofs.Cutting.{values_before-none}
-use Rattle.cdk_intrinsics.specs.Forms.{pair_form, map_args}
+use Rattle.cdk_intrinsics.specs.Forms.{pair_form, map_listed, intrinsic_at, where_there}
+use Rattle.cdk_intrinsics.specs.Found.{put_outcome}
 use Rattle.cdk_intrinsics.specs.Scopes.{scope_view, has_name}
 use Rattle.cdk_intrinsics.specs.Substitution.{look, items_by, joined_items}
-use Rattle.cdk_intrinsics.proofs.Listing.{listed_before, listed_value, fielded_before, fielded_none, fielded_value, before_nothing, AreAbove, above_none, all_above_put, sorted_rest}
-use Rattle.cdk_intrinsics.proofs.Parts.{pair_other, if_other, map_other, sub_other, map_three, sub_two, items_same, view-String}
+use Rattle.cdk_intrinsics.proofs.Listing.{listed_before, listed_value, fielded_before, fielded_none, fielded_next, fielded_fault, before_nothing, AreAbove, above_none, all_above_next, sorted_rest}
+use Rattle.cdk_intrinsics.proofs.Parts.{pair_other, if_other, map_other, map_three, sub_two, items_same, form_same, view-String}
 use Rattle.cdk_intrinsics.proofs.value.+evaluation.Goals as goal
 use Rattle.cdk_intrinsics.proofs.value.+evaluation.Goals.{array_outcome-in-Value+in_ok-push-in-Value, array_outcome-in-Gone}
 
@@ -40,27 +42,24 @@ map_form-returns-in_default-three_of t c =
 pub map_form-returns : goal.map_form-returns
 map_form-returns t c =
     let s = scope_view c.args.scope.now in
-    let opened = ap (λ d. map_form s (parts s d)) (ap view c.in-Array.is ∙ view-Array c.in-Array.items) ∙ map_three s c.in-Array.items.items c.in-Some.mapping.now c.in-Some.top.now c.in-Some.second.now c.in-Some.ensures in
-    let m = outcome_view c.in_ok-mapping.mapping in
-    let x = outcome_view c.in_ok-top.top in
-    let args = ap (λ o. map_args s o x (outcome_view c.in_ok-second.second)) c.in_ok-mapping.ensures
-    ∙ ap (λ o. map_args s (outcome s (view c.in-Some.mapping.now)) o (outcome_view c.in_ok-second.second)) c.in_ok-top.ensures
-    ∙ ap (λ o. map_args s (outcome s (view c.in-Some.mapping.now)) (outcome s (view c.in-Some.top.now)) o) c.in_ok-second.ensures in
-    IfOk-weaker c.leaf_outcome.result _ _ (λ o h. h ∙ args ∙ sym opened) c.leaf_outcome.ensures
+    let vs = c.in-Array.items.items in
+    let opened = ap (λ d. map_form s (parts s d)) (ap view c.in-Array.is ∙ view-Array c.in-Array.items) ∙ map_three s vs c.in-Some._mapping.now c.in-Some._top.now c.in-Some._second.now c.in-Some.ensures in
+    IfOk-weaker c.leaf_outcome.result _ _ (λ o h. h ∙ ap (map_listed s) c.in_ok-names.ensures ∙ sym opened) c.leaf_outcome.ensures
 
 pub named_sub-returns-in_default : goal.named_sub-returns-in_default
-named_sub-returns-in_default t c = sub_other (scope_view c.args.scope.now) c.args.items.now.items c.in_default.ensures
+named_sub-returns-in_default t c = c.in_default.ensures (scope_view c.args.scope.now)
 
 pub named_sub-returns : goal.named_sub-returns
 named_sub-returns t c =
     let s = scope_view c.args.scope.now in
+    let text = c.in-Some.text.now in
+    let names = c.in-Some.members.now in
     let ps = map part_view c.in-Some-2.parts.items in
-    let ms = members_view c.in-Object.members.entries in
+    let ms = members_view names.entries in
     let by = look c.in_ok-named.named in
-    let found : Some ps ≡ sub_parts (string_bytes c.in-String.text) =
+    let found : Some ps ≡ sub_parts (string_bytes text) =
     ap (option_map (λ v. map part_view v.items)) (sym c.in-Some-2.is) ∙ c.in_ok-parts.ensures ∙ ap sub_parts c.as_str.ensures.value in
-    let whole = sub_two s c.args.items.now.items c.in-Some.text.now c.in-Some.names.now (string_bytes c.in-String.text) ms ps c.in-Some.ensures
-    (ap view c.in-String.is ∙ view-String c.in-String.text) (ap view c.in-Object.is ∙ view-Object c.in-Object.members) found in
+    let whole = sub_two s c.args.items.now.items (values.String text) (values.Object names) (string_bytes text) ms ps c.in-Some.ensures (view-String text) (view-Object names) found in
     let same = items_same s by (each_member s ms) (has_name c.in_ok-used.used) c.in_ok-named.ensures (map part_view c.as_slice.result.now) c.in_ok-used.ensures in
     let used = same ∙ ap (λ qs. sub_items s (each_member s ms) (map part_view qs)) c.as_slice.ensures.value in
     IfOk-weaker c.sub_outcome.result _ _
@@ -102,38 +101,33 @@ object_outcome-loop-key-init t c =
       ap (λ xs. member_outcomes s (members_view xs)) (sym all) ∙ fielded_none (member_outcomes s (members_view es)) ∙ ap (λ ms. fielded_before ms (member_outcomes s (members_view es))) (sym none),
     )
 
+pub object_outcome-returns-in-Some-2 : goal.object_outcome-returns-in-Some-2
+object_outcome-returns-in-Some-2 t c =
+    let l = c.loop-key in
+    let s = scope_view c.args.scope.now in
+    let k = string_bytes c.in-Some.key.now in
+    let o = outcome_view c.in_ok-outcome.outcome in
+    let rest = member_outcomes s (members_view c.next.new.self) in
+    let ms = members_view l.found.entries in
+    sym (ap object_outcome (l.invariant.2 ∙ ap (λ xs. fielded_before ms (member_outcomes s (members_view xs))) c.in-Some.ensures.steps ∙ ap (λ x. fielded_before ms (first_member k x rest)) (sym c.in_ok-outcome.ensures))
+    ∙ fielded_fault k o c.in-Some-2.fault ms rest (sym c.in-Some-2.is ∙ c.in_ok-fault.ensures.0))
+
 pub object_outcome-loop-key-preserved : goal.object_outcome-loop-key-preserved
 object_outcome-loop-key-preserved t c =
     let l = c.loop-key in
     let s = scope_view c.args.scope.now in
     let e : Entry = (c.in-Some.key.now, c.in-Some.member.now) in
-    let left = c.next.new.self in
-    let rest = member_outcomes s (members_view left) in
-    let ms = members_view l.found.entries in
-    let sorted = subst (λ xs. IsStrictlySortedBy string_cmp (keys_of xs)) c.in-Some.ensures.steps l.invariant.0 in
-    let above = subst (λ xs. AreAbove xs ms) c.in-Some.ensures.steps l.invariant.1 in
-    let was = l.invariant.2 ∙ ap (λ xs. fielded_before ms (member_outcomes s (members_view xs))) c.in-Some.ensures.steps
-    ∙ ap (λ o. fielded_before ms (first_member (string_bytes c.in-Some.key.now) o rest)) (sym c.in_ok-value.ensures ∙ ap outcome_view c.in-Gone.is) in
-    (sorted_rest e left sorted, above.1, was)
-
-pub object_outcome-loop-key-preserved-in-Value : goal.object_outcome-loop-key-preserved-in-Value
-object_outcome-loop-key-preserved-in-Value t c =
-    let l = c.loop-key in
-    let s = scope_view c.args.scope.now in
-    let e : Entry = (c.in-Some.key.now, c.in-Some.member.now) in
     let k = string_bytes c.in-Some.key.now in
-    let d = view c.in-Value.value in
+    let o = outcome_view c.in_ok-outcome.outcome in
     let left = c.next.new.self in
     let rest = member_outcomes s (members_view left) in
     let ms = members_view l.found.entries in
     let sorted = subst (λ xs. IsStrictlySortedBy string_cmp (keys_of xs)) c.in-Some.ensures.steps l.invariant.0 in
     let above = subst (λ xs. AreAbove xs ms) c.in-Some.ensures.steps l.invariant.1 in
-    let named : string_bytes c.in_ok-key-in-Value.key ≡ k = c.in_ok-key-in-Value.ensures.cases in
-    let entered : members_view c.insert.new.self.entries ≡ put k d ms =
-    ap members_view c.in_ok-insert-in-Value.ensures.entries ∙ members_view-insert_entry l.found.entries c.in_ok-key-in-Value.key c.in-Value.value ∙ ap (λ n. put n d ms) named in
+    let entered : members_view c.put_outcome.new.found.entries ≡ put_outcome k o ms = c.in_ok-fault.ensures.1 in
     let was = l.invariant.2 ∙ ap (λ xs. fielded_before ms (member_outcomes s (members_view xs))) c.in-Some.ensures.steps
-    ∙ ap (λ o. fielded_before ms (first_member k o rest)) (sym c.in_ok-value.ensures ∙ ap outcome_view c.in-Value.is) ∙ fielded_value k d ms rest above.0 in
-    (sorted_rest e left sorted, subst (AreAbove left) (sym entered) (all_above_put e left d ms sorted above.0 above.1), was ∙ ap (λ xs. fielded_before xs rest) (sym entered))
+    ∙ ap (λ x. fielded_before ms (first_member k x rest)) (sym c.in_ok-outcome.ensures) ∙ fielded_next k o ms rest (sym c.in_default.is ∙ c.in_ok-fault.ensures.0) above.0 in
+    (sorted_rest e left sorted, subst (AreAbove left) (sym entered) (all_above_next e left o ms sorted above.0 above.1), was ∙ ap (λ xs. fielded_before xs rest) (sym entered))
 
 pub object_outcome-returns : goal.object_outcome-returns
 object_outcome-returns t c =
@@ -142,3 +136,14 @@ object_outcome-returns t c =
     let ms = members_view l.found.entries in
     sym (ap object_outcome (l.invariant.2 ∙ ap (λ xs. fielded_before ms (member_outcomes s (members_view xs))) c.in-None.ensures.steps.0)
     ∙ ap (λ xs. outcomes.Value (object xs)) (before_nothing ms) ∙ ap outcomes.Value (sym (view-Object l.found)))
+
+pub single_form-returns-in-Some-intrinsic_at : goal.single_form-returns-in-Some-intrinsic_at
+single_form-returns-in-Some-intrinsic_at t c =
+    let s = scope_view c.args.scope.now in
+    let k = string_bytes c.in-Some.key.now in
+    let d = view c.in-Some.argument.now in
+    let none : c.next.new.self ≡ [] = search rules in
+    let alone : c.args.members.now.entries ≡ (c.in-Some.key.now, c.in-Some.argument.now) ∷ [] = sym c.iter-entries.ensures.rest ∙ c.in-Some.ensures.steps ∙ ap (λ es. (c.in-Some.key.now, c.in-Some.argument.now) ∷ es) none in
+    let there : Some c.in-Some-intrinsic_at.intrinsic ≡ intrinsic_at k s.is_operand = c.in-Some-intrinsic_at.ensures ∙ ap (λ x. intrinsic_at x s.is_operand) c.as_str.ensures.value in
+    let opened = ap (λ es. single_form s (members_view es)) alone ∙ form_same s k d (outcome s d) (parts s d) ∙ sym (ap (λ i. where_there s i d (outcome s d) (parts s d)) there) in
+    IfOk-weaker c.form_outcome.result _ _ (λ o h. h ∙ sym opened) c.form_outcome.ensures
