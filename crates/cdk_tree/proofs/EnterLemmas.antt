@@ -1,15 +1,15 @@
 -- A construct that enters its scope: from what is known of its path and of its slot to what is placed.
-use Rattle.std.proofs.Common.{◌≡◌, ◌<◌, ℕ, ◌+◌, length, Bool, true, false, Option, Some, None, List, ◌∷◌, Result, Ok, Err, refl, ap, arith}
+use Rattle.std.proofs.Common.{◌≡◌, ◌<◌, ℕ, ◌+◌, length, Bool, true, false, Option, Some, None, List, [], ◌∷◌, ◌++◌, Result, Ok, Err, refl, ap, ◌∙◌, arith}
 use Rattle.std.specs.Prelude.{◌&&◌, ◌||◌, nat_le, not, is_some, is_none, if◌then◌else◌}
 use Rattle.std.proofs.lemmas.Bool.{leb-false}
 use Rattle.cdk_base.specs.declared.code.Code.TheVariants.{BadId, SameId, BadPlace}
 use Rattle.cdk_base.specs.declared.fault.Fault.{Fault}
 use Rattle.cdk_base.specs.declared.fault.Fault.TheVariants as faults
 use Rattle.cdk_language.specs.Construct.{Body, Constructs, Head, construct, kind_view}
-use Rattle.cdk_tree.specs.Placed.{Placed, construct_at, find_path, is_stack, is_stage, path_in, placed_in}
+use Rattle.cdk_tree.specs.Placed.{Placed, construct_at, find_path, is_stack, is_stage, path_in, placed_in, root_placed}
 use Rattle.cdk_tree.specs.PlaceFindings.{is_element, is_id}
-use Rattle.cdk_tree.specs.Slots.{contexts_above, head_of, placed_of, slot_in}
-use Rattle.cdk_tree.specs.Walking.{Waiting, wrong_code, ChecksPath, Enters, Places}
+use Rattle.cdk_tree.specs.Slots.{head_of, placed_of, slot_in}
+use Rattle.cdk_tree.specs.Walking.{Waiting, children_of, wrong_code, ChecksPath, Enters, EntersRoot, Places}
 use Rattle.cdk_tree.specs.declared.nodes.Nodes.{Nodes}
 use Rattle.cdk_tree.specs.declared.part.Part.{Part}
 use Rattle.cdk_tree.specs.declared.slot.Slot.{Slot}
@@ -62,6 +62,14 @@ enters (Ok t) cs m h b kids before after none placed = (none, placed)
 enters (Err faults.Memory) cs m h b kids before after none placed = tt
 enters (Err (faults.App code place)) cs m h b kids before after none placed = absurd placed
 enters (Err (faults.Refused place name text)) cs m h b kids before after none placed = absurd placed
+
+pub enters_root : (r : Result Nodes Fault) (cs : List Placed) (p : Placed) (h : Head) (b : Body) (kids : Constructs) (before after : List Waiting) → cs ≡ [] → p ≡ root_placed h b → Places r cs p kids before after
+    → EntersRoot r (construct h b kids) before after
+enters_root (Ok t) cs p h b kids before after none is placed =
+    (placed.0 ∙ ap (λ l. l ++ p ∷ []) none ∙ ap (λ q. q ∷ []) is, placed.1 ∙ ap (λ l. children_of (length l) kids ++ before) none)
+enters_root (Err faults.Memory) cs p h b kids before after none is placed = tt
+enters_root (Err (faults.App code place)) cs p h b kids before after none is placed = placed
+enters_root (Err (faults.Refused place name text)) cs p h b kids before after none is placed = placed
 
 pub refuses : (fault : Fault) (cs : List Placed) (m : ℕ) (h : Head) (b : Body) (kids : Constructs) (before after : List Waiting) → ChecksPath (Err fault) cs m h.id b → Enters (Err fault) cs m (construct h b kids) before after
 refuses faults.Memory cs m h b kids before after checked = tt

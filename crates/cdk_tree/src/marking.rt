@@ -33,6 +33,17 @@ fn first_unmet(numbers: &[usize], met: &[bool], from: usize) -> usize
     numbers.len()
 }
 
+/// So many empty lists.
+fn empty_lists(alloc: Global, count: usize) -> Result<Vec<List<usize>>, AllocError>
+    ensures { IfOk result (λ ls. length ls.items ≡ count) }
+{
+    let mut lists = Vec::new(alloc);
+    for _at in 0..count {
+        lists.push(List::new(alloc))?;
+    }
+    Ok(lists)
+}
+
 impl Marking {
     ghost use Rattle.cdk_tree.specs.Needs.{steps_left, AreWithin, IsCounted, IsMarking, IsNew, Settles};
 
@@ -50,41 +61,23 @@ impl Marking {
         }
         let at = first_unmet(numbers.as_slice(), self.met.as_slice(), self.passed[user]);
         self.passed[user] = at;
-        match numbers.get(at) {
-            Some(number) => self.waiting[*number].push(user)?,
-            None => {
-                self.met[user] = true;
-                self.ready.push(user)?;
-            }
-        }
-        Ok(())
+        let Some(number) = numbers.get(at) else {
+            self.met[user] = true;
+            self.ready.push(user)?;
+            return Ok(());
+        };
+        self.waiting[*number].push(user)
     }
 
     fn new(alloc: Global, count: usize) -> Result<Marking, AllocError>
         ensures { IfOk result (λ m. IsNew count m) }
     {
-        let mut waiting = Vec::new(alloc);
-        for _at in 0..count {
-            waiting.push(List::new(alloc))?;
-        }
         Ok(Marking {
             passed: vec![in alloc; 0; count]?,
             met: vec![in alloc; false; count]?,
-            waiting,
+            waiting: empty_lists(alloc, count)?,
             ready: Vec::new(alloc),
         })
-    }
-
-    /// Looks at all needs once.
-    fn settle_each(&mut self, needs: &[Option<List<usize>>]) -> Result<(), AllocError>
-        requires within { AreWithin needs.now }
-        requires marking { IsMarking needs.now 0 [] self.old }
-        ensures { OnOk result (IsMarking needs.now (length needs.now) [] self.new) }
-    {
-        for user in 0..needs.len() {
-            self.settle(needs, user)?;
-        }
-        Ok(())
     }
 
     /// Looks again at those that waited.
@@ -117,6 +110,23 @@ impl Marking {
         }
         Ok(())
     }
+
+    /// Looks at all needs once, and then again at those that waited for one that is met.
+    fn settle_needs(
+        &mut self,
+        alloc: Global,
+        needs: &[Option<List<usize>>],
+    ) -> Result<(), AllocError>
+        requires within { AreWithin needs.now }
+        requires marking { IsMarking needs.now 0 [] self.old }
+        ensures marking { OnOk result (IsMarking needs.now (length needs.now) [] self.new) }
+        ensures done { OnOk result (self.new.ready.items ≡ []) }
+    {
+        for user in 0..needs.len() {
+            self.settle(needs, user)?;
+        }
+        self.spread(alloc, needs)
+    }
 }
 
 /// Which needs are met.
@@ -125,7 +135,6 @@ pub fn met_needs(alloc: Global, needs: &[Option<List<usize>>]) -> Result<Vec<boo
     ensures { IfOk result (λ ms. ms.items ≡ met_after (length needs.now) needs.now) }
 {
     let mut marking = Marking::new(alloc, needs.len())?;
-    marking.settle_each(needs)?;
-    marking.spread(alloc, needs)?;
+    marking.settle_needs(alloc, needs)?;
     Ok(marking.met)
 }

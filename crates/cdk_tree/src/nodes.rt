@@ -1,5 +1,7 @@
 // The constructs by number and by path.
-ghost use Rattle.std.specs.Prelude.{◌≡◌, ℕ, ◌<◌, List, [], ◌∷◌, ◌++◌, length, map, true, IfOk, IfSome, None, string_bytes};
+ghost use Rattle.std.specs.Prelude.{◌≡◌, ℕ, ◌<◌, List, [], ◌∷◌, ◌++◌, length, map, true, IfOk, IfSome, None, OnOk, string_bytes};
+ghost use Rattle.std.specs.String.{string_eq};
+ghost use Rattle.indexmap.specs.IndexMap.{insert_entry};
 ghost use Rattle.cdk_tree.specs.Slots.{constructs_in, fit_parents, fits_parent, is_scoped, numbered_paths, placed_of, AreScoped};
 
 use crate::node_id::NodeId;
@@ -16,6 +18,22 @@ pub struct Nodes {
     ghost rooted: { fit_parents 0 slots ≡ true },
     ghost scoped: { AreScoped (constructs_in slots) },
     ghost indexed: { map (λ e. (string_bytes e.0, e.1)) paths.entries ≡ numbered_paths 0 (constructs_in slots) },
+}
+
+/// Adds a construct and its path. After a failure the two may not fit.
+fn add(
+    slots: &mut List<Slot>,
+    paths: &mut IndexMap<String, NodeId>,
+    path: String,
+    slot: Slot,
+) -> Result<(), AllocError>
+    ensures slots { OnOk result (slots.new ≡ slots.old ++ slot ∷ []) }
+    ensures paths { OnOk result (paths.new.entries ≡ insert_entry string_eq paths.old.entries path (length slots.old)) }
+{
+    let at = NodeId::new(slots.len());
+    slots.push(slot)?;
+    paths.insert(path, at)?;
+    Ok(())
 }
 
 impl Nodes {
@@ -47,10 +65,14 @@ impl Nodes {
             mut slots,
             mut paths,
         } = self;
-        let at = NodeId::new(slots.len());
-        slots.push(slot)?;
-        paths.insert(path, at)?;
-        Ok(Nodes { slots, paths })
+        match add(&mut slots, &mut paths, path, slot) {
+            Ok(()) => Ok(Nodes { slots, paths }),
+            Err(error) => {
+                drop(slots);
+                drop(paths);
+                Err(error)
+            }
+        }
     }
 
     /// How many constructs there are.

@@ -18,7 +18,7 @@ pub enum PassError {
 }
 
 /// What a target is needed for, which says the kinds that it may have.
-#[derive(Clone, Copy, PartialEq, Eq, Debug)]
+#[derive(Clone, Copy)]
 pub enum TargetRole {
     /// Of a `Ref`: a resource or parameter.
     Referable,

@@ -48,7 +48,10 @@ impl Tree {
         };
         match list_lazies(alloc, &nodes) {
             Ok(lists) => Ok(Tree { nodes, lists }),
-            Err(_) => Err(Fault::Memory),
+            Err(_) => {
+                drop(nodes);
+                Err(Fault::Memory)
+            }
         }
     }
 

@@ -33,14 +33,21 @@ fn is_id(id: &str) -> bool
     1 <= id.len() && id.len() <= ID_LIMIT
 }
 
+/// Puts an id behind a path, after a `/` where neither is empty.
+fn join(path: &mut String, id: &str) -> Result<(), AllocError>
+    ensures { OnOk result (string_bytes path.new ≡ spec_path_in (string_bytes path.old) id.now) }
+{
+    if !path.is_empty() && !id.is_empty() {
+        path.push('/')?;
+    }
+    path.push_str(id)
+}
+
 fn path_in(alloc: Global, scope: &str, id: &str) -> Result<String, AllocError>
     ensures { IfOk result (λ p. string_bytes p ≡ spec_path_in scope.now id.now) }
 {
     let mut path = String::from_str(alloc, scope)?;
-    if !scope.is_empty() && !id.is_empty() {
-        path.push('/')?;
-    }
-    path.push_str(id)?;
+    join(&mut path, id)?;
     Ok(path)
 }
 
@@ -212,7 +219,10 @@ fn place(
     };
     match push_children(pending, children, at) {
         Ok(()) => Ok(nodes),
-        Err(_) => Err(Fault::Memory),
+        Err(_) => {
+            drop(nodes);
+            Err(Fault::Memory)
+        }
     }
 }
 
@@ -232,6 +242,8 @@ fn enter(
         Ok(path) => path,
         Err(fault) => {
             drop(part);
+            drop(children);
+            drop(nodes);
             return Err(fault);
         }
     };
@@ -272,6 +284,8 @@ pub fn walk(alloc: Global, root: Node) -> Result<Nodes, Fault>
     ensures { Completes result (constructs_of (node_view root)) }
 {
     let mut pending = List::new(alloc);
-    let nodes = enter_root(alloc, &mut pending, root)?;
-    enter_all(alloc, nodes, pending)
+    match enter_root(alloc, &mut pending, root) {
+        Ok(nodes) => enter_all(alloc, nodes, pending),
+        Err(fault) => Err(fault),
+    }
 }

@@ -7,9 +7,9 @@ use Rattle.cdk_tree.proofs.walking.walk.Goals as goal
 pub enter_all-requires-clause-below : goal.enter_all-requires-clause-below
 enter_all-requires-clause-below c =
     let none : waiting c.new-pending.result ≡ [] = ap waiting c.new-pending.ensures in
-    root_below c.in_ok-nodes.nodes (node_view c.args.root) (waiting c.new-pending.result) (waiting c.enter_root.new.pending) none c.in_ok-nodes.ensures
+    root_below c.in-Ok.nodes (node_view c.args.root) (waiting c.new-pending.result) (waiting c.enter_root.new.pending) none c.in-Ok.ensures
 
-pub returns : goal.returns
-returns c =
+pub returns-in-Ok : goal.returns-in-Ok
+returns-in-Ok c =
     let none : waiting c.new-pending.result ≡ [] = ap waiting c.new-pending.ensures in
-    subst (Completes c.enter_all.result) (root_all c.in_ok-nodes.nodes (node_view c.args.root) (waiting c.new-pending.result) (waiting c.enter_root.new.pending) none c.in_ok-nodes.ensures) c.enter_all.ensures
+    subst (Completes c.enter_all.result) (root_all c.in-Ok.nodes (node_view c.args.root) (waiting c.new-pending.result) (waiting c.enter_root.new.pending) none c.in-Ok.ensures) c.enter_all.ensures

@@ -5,6 +5,13 @@ use Rattle.cdk_tree.specs.Needs.{IsMarkingOf}
 use Rattle.cdk_tree.proofs.MarkingLemmas.{marking-told, found_within}
 use Rattle.cdk_tree.proofs.marking.Marking.spread.Goals as goal
 
+pub index_mut-requires : goal.index_mut-requires
+index_mut-requires c =
+    let ns = c.args.needs.now in
+    let m = c.loop-found.self in
+    let before = subst (λ r. IsMarkingOf ns (length ns) [] m.passed.items m.met.items m.waiting.items r) c.in-Some.ensures.items c.loop-found.invariant in
+    omega (arith, found_within ns m.passed.items m.met.items m.waiting.items c.pop.new.self.items c.in-Some.found before, before.waiting_count)
+
 pub settle_all-requires-clause-marking : goal.settle_all-requires-clause-marking
 settle_all-requires-clause-marking c =
     let ns = c.args.needs.now in

@@ -1,4 +1,4 @@
-use Rattle.std.proofs.Common.{◌≡◌, ◌<◌, ℕ, length, Option, Some, None, option_map, true, ap, sym, ◌∙◌, arith}
+use Rattle.std.proofs.Common.{◌≡◌, ◌<◌, ℕ, length, Option, Some, None, option_map, true, refl, ap, sym, ◌∙◌, arith}
 use Rattle.std.proofs.lemmas.Bool.{ltb-true}
 use Rattle.std.specs.Prelude.{MatchOption}
 use Rattle.std.specs.Option.{option_or}
@@ -38,3 +38,6 @@ loop-next-preserved c =
       same = c.loop-next.invariant.same ∙ ap (λ p. look_up key (contexts_above cs p)) c.in-Some.is
           ∙ ap (λ (p : Placed). look_up key p.contexts) (sym c.slot-slot.ensures.placed) ∙ ap (λ o. option_or o rest) none;
     }
+
+pub loop-next-init : goal.loop-next-init
+loop-next-init c = record { inside = c.requires; same = refl }

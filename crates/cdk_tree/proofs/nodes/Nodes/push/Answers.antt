@@ -14,21 +14,21 @@ pub invariant_of-result-clause-rooted : goal.invariant_of-result-clause-rooted
 invariant_of-result-clause-rooted c =
     let ss = c.args.self.slots in
     let same : length (placed_nodes c.args.self) ≡ 0 + length ss = omega (arith, length-constructs_in ss) in
-    ap (fit_parents 0) c.in_ok-push.ensures.ok ∙ fit_parents-push 0 ss c.args.slot c.args.self.rooted (ap (λ n. fits_parent n c.args.slot.parent) (sym same) ∙ c.requires.parent)
+    ap (fit_parents 0) c.in-Ok.ensures.slots ∙ fit_parents-push 0 ss c.args.slot c.args.self.rooted (ap (λ n. fits_parent n c.args.slot.parent) (sym same) ∙ c.requires.parent)
 
 pub invariant_of-result-clause-indexed : goal.invariant_of-result-clause-indexed
 invariant_of-result-clause-indexed c =
     let cs = placed_nodes c.args.self in
-    let at : c.new-at.result ≡ length cs = c.new-at.ensures ∙ c.len.ensures ∙ sym (length-constructs_in c.args.self.slots) in
-    indexed-push c.args.self.paths.entries c.insert.new.self.entries cs (placed_of cs c.args.slot) c.args.path c.args.self.indexed c.requires.new c.requires.path
-    (c.in_ok-insert.ensures.entries ∙ ap (insert_entry string_eq c.args.self.paths.entries c.args.path) at)
-    ∙ ap (numbered_paths 0) (sym (ap constructs_in c.in_ok-push.ensures.ok ∙ constructs_in-push c.args.self.slots c.args.slot))
+    let at : length c.args.self.slots ≡ length cs = sym (length-constructs_in c.args.self.slots) in
+    indexed-push c.args.self.paths.entries c.add.new.paths.entries cs (placed_of cs c.args.slot) c.args.path c.args.self.indexed c.requires.new c.requires.path
+    (c.in-Ok.ensures.paths ∙ ap (insert_entry string_eq c.args.self.paths.entries c.args.path) at)
+    ∙ ap (numbered_paths 0) (sym (ap constructs_in c.in-Ok.ensures.slots ∙ constructs_in-push c.args.self.slots c.args.slot))
 
-pub returns : goal.returns
-returns c = ap constructs_in c.in_ok-push.ensures.ok ∙ constructs_in-push c.args.self.slots c.args.slot
+pub returns-in-Ok : goal.returns-in-Ok
+returns-in-Ok c = ap constructs_in c.in-Ok.ensures.slots ∙ constructs_in-push c.args.self.slots c.args.slot
 
 pub invariant_of-result-clause-scoped : goal.invariant_of-result-clause-scoped
 invariant_of-result-clause-scoped c =
     let cs = placed_nodes c.args.self in
     let made = constructs_in-push c.args.self.slots c.args.slot in
-    subst AreScoped (sym (ap constructs_in c.in_ok-push.ensures.ok ∙ made)) (AreScoped-push cs (placed_of cs c.args.slot) c.args.self.scoped c.requires.scopes)
+    subst AreScoped (sym (ap constructs_in c.in-Ok.ensures.slots ∙ made)) (AreScoped-push cs (placed_of cs c.args.slot) c.args.self.scoped c.requires.scopes)

@@ -1,6 +1,6 @@
 use Rattle.std.proofs.Common.{◌+◌, []}
 use Rattle.cdk_tree.proofs.MarkingLemmas.{looked, widen}
-use Rattle.cdk_tree.proofs.marking.Marking.settle_each.Goals as goal
+use Rattle.cdk_tree.proofs.marking.Marking.settle_needs.Goals as goal
 
 pub loop-user-preserved : goal.loop-user-preserved
 loop-user-preserved c =
