@@ -1,15 +1,17 @@
 -- A run that goes on with the pieces of a Sub.
-use Rattle.std.proofs.Common.{◌≡◌, ◌≢◌, ℕ, List, [], ◌∷◌, ◌++◌, Bool, true, false, Option, Some, None, option_map, option_and_then, cond, length, Ordering, Less, Equal, Greater, nat_cmp, is_eq, bytes_eq, refl, sym, ap, ◌∙◌, append_assoc, append-nil}
+use Rattle.std.proofs.Common.{◌≡◌, ◌≢◌, ℕ, List, [], ◌∷◌, ◌++◌, Bool, true, false, Option, Some, None, option_map, option_and_then, cond, codes, length, string_bytes, Ordering, Less, Equal, Greater, nat_cmp, is_eq, bytes_eq, refl, sym, ap, ◌∙◌, append_assoc, append-nil}
 use Rattle.std.specs.List.{list_any}
 use Rattle.std.specs.Prelude.{flat_map}
 use Rattle.std.specs.Cmp.Lexicographic.{slice_cmp}
 use Rattle.std.specs.Ordering.{match_ordering}
 use Rattle.std.proofs.lemmas.Map.Text.{is_eq-slice_cmp}
+use Rattle.std.proofs.lemmas.Slice.Eq.{bytes_eq-Decides}
 use Rattle.serde_json.specs.Data.{Data, null, boolean, number, string, array, object, Items, no_items, item, Members, no_members, member}
-use Rattle.serde_json.specs.Find.{get_member, as_str}
-use Rattle.serde_json.specs.View.{view, items_view}
+use Rattle.serde_json.specs.Find.{get_member, as_str, as_object}
+use Rattle.serde_json.specs.View.{view, items_view, members_view}
 use Rattle.serde_json.specs.declared.value.Value.{Value}
-use Rattle.cdk_language.specs.Runs.{Literals, is_marked_run, piece_literals, sub_literals, no_literal, literals_of, substituted_literals, variable, variables_literals}
+use Rattle.serde_json.proofs.Views.{Entry}
+use Rattle.cdk_language.specs.Runs.{Literals, is_marked_run, piece_literals, sub_literals, no_literal, literals_of, form_literals, concat_literals, items_literals, substituted_literals, variable, variables_literals}
 use Rattle.cdk_language.specs.Schema.{is_barred_piece, are_wrong_pieces, is_wrong_sub_text}
 use Rattle.cdk_language.specs.Sub.{Piece, name, is_variable_name, no_piece, wrong_piece, first_piece, first_piece_of, literal_before, pieces_of}
 use Rattle.cdk_language.specs.declared.schema.Within.TheVariants as within
@@ -91,6 +93,41 @@ variable-get x (member l e ms) = same_key (slice_cmp nat_cmp x l) (bytes_eq x l)
 pub name_found : (x : List ℕ) (ms : Members) (o : Option Data) → is_variable_name x ≡ true → get_member x ms ≡ o → piece_literals (variables_literals ms) (name x) ≡ found o
 name_found x ms o e f = ap (λ b. cond b (variable x (variables_literals ms)) no_literal) e ∙ variable-get x ms ∙ ap found f
 
+-- ---- an object of one member, by its key
+
+abbrev form_by : List ℕ → Data → Literals
+form_by k d = cond (bytes_eq k (codes "CDK::Concat")) (concat_literals d) (cond (bytes_eq k (codes "Fn::Sub")) (substituted_literals d) no_literal)
+
+pub concat_form : (e : Entry) (k : List ℕ) → k ≡ string_bytes e.0 → k ≡ codes "CDK::Concat" → form_literals (members_view (e ∷ [])) ≡ concat_literals (view e.1)
+concat_form e k named is = ap (λ l. form_by l (view e.1)) (sym named ∙ is)
+
+pub sub_form : (e : Entry) (k : List ℕ) → k ≡ string_bytes e.0 → k ≡ codes "Fn::Sub" → form_literals (members_view (e ∷ [])) ≡ substituted_literals (view e.1)
+sub_form e k named is = ap (λ l. form_by l (view e.1)) (sym named ∙ is)
+
+other_name : (k n : List ℕ) (b : Bool) → bytes_eq k n ≡ b → k ≢ n → bytes_eq k n ≡ false
+other_name k n true e h = absurd (h ((bytes_eq-Decides k n).0 e))
+other_name k n false e h = e
+
+pub other_form : (e : Entry) (k : List ℕ) → k ≡ string_bytes e.0 → k ≢ codes "CDK::Concat" → k ≢ codes "Fn::Sub" → form_literals (members_view (e ∷ [])) ≡ no_literal
+other_form e k named no_concat no_sub =
+    let d = view e.1 in
+    ap (λ l. form_by l d) (sym named)
+    ∙ ap (λ b. cond b (concat_literals d) (cond (bytes_eq k (codes "Fn::Sub")) (substituted_literals d) no_literal)) (other_name k (codes "CDK::Concat") (bytes_eq k (codes "CDK::Concat")) refl no_concat)
+    ∙ ap (λ b. cond b (substituted_literals d) no_literal) (other_name k (codes "Fn::Sub") (bytes_eq k (codes "Fn::Sub")) refl no_sub)
+
+-- ---- a Concat's next item
+
+pub item_read : (n m : ℕ) (v : Value) (vs : List Value) (more : Literals) → Reads n (literals_of (view v)) m
+    → is_marked_run (opening n) (items_literals (items_view (v ∷ vs)) ++ more) ≡ is_marked_run (opening m) (items_literals (items_view vs) ++ more)
+item_read n m v vs more r = ap (is_marked_run (opening n)) (append_assoc (literals_of (view v)) (items_literals (items_view vs)) more) ∙ r.same (items_literals (items_view vs) ++ more)
+
+-- ---- an object of no or more members
+
+pub no_form_literals : (es : List Entry) → length es ≢ 1 → form_literals (members_view es) ≡ no_literal
+no_form_literals [] h = refl
+no_form_literals (e ∷ []) h = absurd (h refl)
+no_form_literals (e ∷ f ∷ es) h = refl
+
 -- ---- a Sub that has no pieces
 
 past_two : (d e f : Data) (ds : Items) → substituted_literals (array (item d (item e (item f ds)))) ≡ no_literal
@@ -107,5 +144,30 @@ not_two (v ∷ []) h = refl
 not_two (v ∷ w ∷ []) h = absurd (h refl)
 not_two (v ∷ w ∷ x ∷ vs) h = past_two (view v) (view w) (view x) (items_view vs)
 
-pub two_uncut : (d : Data) (ms : Members) (t : List ℕ) → as_str d ≡ Some t → pieces_of t ≡ None → substituted_literals (array (item d (item (object ms) no_items))) ≡ no_literal
-two_uncut d ms t e f = ap (λ o. sub_literals (variables_literals ms) (option_and_then pieces_of o)) e ∙ ap (sub_literals (variables_literals ms)) f
+pub two_other : (d e : Data) → as_object e ≡ None → substituted_literals (array (item d (item e no_items))) ≡ no_literal
+two_other d null f = refl
+two_other d (boolean b) f = refl
+two_other d (number n) f = refl
+two_other d (string s) f = refl
+two_other d (array ds) f = refl
+two_other d (object ms) f = absurd (cc)
+
+pub two_no_text : (d e : Data) → as_str d ≡ None → substituted_literals (array (item d (item e no_items))) ≡ no_literal
+two_no_text d null f = refl
+two_no_text d (boolean b) f = refl
+two_no_text d (number n) f = refl
+two_no_text d (string s) f = refl
+two_no_text d (array ds) f = refl
+two_no_text d (object ms) f = ap (λ o. sub_literals (variables_literals ms) (option_and_then pieces_of o)) f
+
+-- ---- a Sub of a text and its variables
+
+pub two_same : (d e : Data) (ms : Members) (t : List ℕ) → as_object e ≡ Some ms → as_str d ≡ Some t → substituted_literals (array (item d (item e no_items))) ≡ sub_literals (variables_literals ms) (pieces_of t)
+two_same d null ms t f g = absurd (cc)
+two_same d (boolean b) ms t f g = absurd (cc)
+two_same d (number n) ms t f g = absurd (cc)
+two_same d (string s) ms t f g = absurd (cc)
+two_same d (array ds) ms t f g = absurd (cc)
+two_same d (object ns) ms t f g =
+    let same : ns ≡ ms = cc in
+    ap (λ o. sub_literals (variables_literals ns) (option_and_then pieces_of o)) g ∙ ap (λ xs. sub_literals (variables_literals xs) (pieces_of t)) same

@@ -1,7 +1,7 @@
 // The walk over a document: the first finding in pre-order, with keys in byte order.
-ghost use Rattle.std.specs.Prelude.{◌≡◌, IfOk};
+ghost use Rattle.std.specs.Prelude.{◌≡◌, Some, IfOk};
 ghost use Rattle.serde_json.specs.View.{view, items_view, members_view};
-ghost use Rattle.cdk_language.specs.Findings.{is_fraction as spec_is_fraction, is_marked_text as spec_is_marked_text, own, findings_at, findings, in_items, in_members, first};
+ghost use Rattle.cdk_language.specs.Findings.{is_fraction as spec_is_fraction, is_marked_text as spec_is_marked_text, own, here, findings_at, findings, in_items, in_members, first};
 ghost use Rattle.cdk_language.specs.Schema.{frame_of as spec_frame_of};
 
 use crate::pointer::{under, under_index};
@@ -59,6 +59,14 @@ fn first_own(
     Ok(None)
 }
 
+/// The finding at the value's own place.
+fn found_here(alloc: Global, code: Code) -> Result<Option<Finding>, AllocError>
+    ensures { IfOk result (λ f. f ≡ Some (here code)) }
+{
+    let place = Text::new(alloc, "")?;
+    Ok(Some(Finding { code, place }))
+}
+
 /// The first finding in a value in a role; `marked` tells that its key holds the beginning of a marker.
 #[cycle(walk)]
 fn first_at(
@@ -71,8 +79,7 @@ fn first_at(
     ensures { IfOk result (λ f. f ≡ first (findings_at marked role (view value.now))) }
 {
     if let Some(code) = first_own(left, marked, role, value)? {
-        let place = Text::new(alloc, "")?;
-        return Ok(Some(Finding { code, place }));
+        return found_here(alloc, code);
     }
     match value {
         Value::Array(items) => first_in_items(alloc, left, role, items),
@@ -93,7 +100,7 @@ fn first_in_items(
     let mut at = 0;
     for item in items {
         if let Some(finding) = first_at(alloc, left, false, item_role(role, at), item)? {
-            return Ok(Some(under_index(alloc, at, &finding)?));
+            return Ok(Some(under_index(alloc, at, finding)?));
         }
         at += 1;
     }
@@ -114,7 +121,7 @@ fn first_in_members(
         let key = key.as_str();
         let role = member_role(frame, key);
         if let Some(finding) = first_at(alloc, left, has_marker(key), role, member)? {
-            return Ok(Some(under(alloc, key, &finding)?));
+            return Ok(Some(under(alloc, key, finding)?));
         }
     }
     Ok(None)

@@ -28,13 +28,11 @@ fn is_barred(within: Within, key: &str, value: &Value) -> bool
 {
     match within {
         Within::Construct => false,
-        Within::Condition => {
-            key == "Fn::GetAtt"
-                || key == "Fn::If"
-                || key == "Fn::ImportValue"
-                || key == "CDK::Lazy"
-                || (key == "Ref" && is_no_value(value))
-        }
+        Within::Condition => match key {
+            "Fn::GetAtt" | "Fn::If" | "Fn::ImportValue" | "CDK::Lazy" => true,
+            "Ref" => is_no_value(value),
+            _ => false,
+        },
     }
 }
 
@@ -51,11 +49,10 @@ pub fn is_form(within: Within, members: &Map) -> bool
 fn is_condition_name(key: &str) -> bool
     ensures { result ≡ spec_is_condition_name key.now }
 {
-    key == "Fn::Equals"
-        || key == "Fn::And"
-        || key == "Fn::Or"
-        || key == "Fn::Not"
-        || key == "Condition"
+    matches!(
+        key,
+        "Fn::Equals" | "Fn::And" | "Fn::Or" | "Fn::Not" | "Condition"
+    )
 }
 
 /// Whether the object is a form of a condition.

@@ -32,18 +32,19 @@ fn step_to(alloc: Global, step: &str, rest: &str) -> Result<Text, AllocError>
 }
 
 /// The finding in a member, as the member's object tells it.
-pub fn under(alloc: Global, step: &str, finding: &Finding) -> Result<Finding, AllocError>
-    ensures { IfOk result (λ f. f ≡ under step.now finding.now) }
+pub fn under(alloc: Global, step: &str, finding: Finding) -> Result<Finding, AllocError>
+    ensures { IfOk result (λ f. f ≡ under step.now finding) }
 {
+    let place = step_to(alloc, step, finding.place.as_str())?;
     Ok(Finding {
         code: finding.code,
-        place: step_to(alloc, step, finding.place.as_str())?,
+        place,
     })
 }
 
 /// The finding in an item, as the item's array tells it.
-pub fn under_index(alloc: Global, index: usize, finding: &Finding) -> Result<Finding, AllocError>
-    ensures { IfOk result (λ f. f ≡ under (decimal index) finding.now) }
+pub fn under_index(alloc: Global, index: usize, finding: Finding) -> Result<Finding, AllocError>
+    ensures { IfOk result (λ f. f ≡ under (decimal index) finding) }
 {
     let digits = index.to_string(alloc)?;
     under(alloc, digits.as_str(), finding)

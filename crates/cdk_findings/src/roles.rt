@@ -82,16 +82,12 @@ pub fn frame_of(role: Role, members: &Map) -> Frame
 fn document_member(schema: Schema, key: &str) -> Role
     ensures { result ≡ spec_document_member schema key.now }
 {
-    if key == "app" {
-        Role::SchemaName
-    } else if key == "children" {
-        Role::Constructs(schema)
-    } else if key == "context" {
-        Role::Context
-    } else if key == "aspects" {
-        Role::Entries(schema)
-    } else {
-        Role::Nothing
+    match key {
+        "app" => Role::SchemaName,
+        "children" => Role::Constructs(schema),
+        "context" => Role::Context,
+        "aspects" => Role::Entries(schema),
+        _ => Role::Nothing,
     }
 }
 
@@ -117,94 +113,69 @@ fn element_member(schema: Schema, key: &str) -> Role
 fn stage_member(schema: Schema, key: &str) -> Role
     ensures { result ≡ spec_kind_member schema kinds.Stage key.now }
 {
-    if key == "children" {
-        Role::Constructs(schema)
-    } else if key == "aspects" {
-        Role::Entries(schema)
-    } else {
-        Role::Nothing
+    match key {
+        "children" => Role::Constructs(schema),
+        "aspects" => Role::Entries(schema),
+        _ => Role::Nothing,
     }
 }
 
 fn stack_member(schema: Schema, key: &str) -> Role
     ensures { result ≡ spec_kind_member schema kinds.Stack key.now }
 {
-    if key == "children" {
-        Role::Constructs(schema)
-    } else if key == "aspects" {
-        Role::Entries(schema)
-    } else if key == "description" {
-        Role::Text
-    } else if key == "dependsOn" {
-        Role::Texts
-    } else {
-        Role::Nothing
+    match key {
+        "children" => Role::Constructs(schema),
+        "aspects" => Role::Entries(schema),
+        "description" => Role::Text,
+        "dependsOn" => Role::Texts,
+        _ => Role::Nothing,
     }
 }
 
 fn group_member(schema: Schema, key: &str) -> Role
     ensures { result ≡ spec_kind_member schema kinds.Group key.now }
 {
-    if key == "children" {
-        Role::Constructs(schema)
-    } else if key == "aspects" {
-        Role::Entries(schema)
-    } else if key == "dependsOn" {
-        Role::Texts
-    } else {
-        Role::Nothing
+    match key {
+        "children" => Role::Constructs(schema),
+        "aspects" => Role::Entries(schema),
+        "dependsOn" => Role::Texts,
+        _ => Role::Nothing,
     }
 }
 
 fn resource_member(schema: Schema, key: &str) -> Role
     ensures { result ≡ spec_kind_member schema kinds.Resource key.now }
 {
-    if key == "type" {
-        Role::NonEmptyText
-    } else if key == "properties" {
-        Role::Properties
-    } else if key == "condition" {
-        Role::Text
-    } else if key == "dependsOn" {
-        Role::Texts
-    } else if key == "aspects" {
-        Role::Entries(schema)
-    } else if key == "deletionPolicy" {
-        Role::Policy
-    } else if key == "updateReplacePolicy" {
-        Role::Policy
-    } else {
-        element_member(schema, key)
+    match key {
+        "type" => Role::NonEmptyText,
+        "properties" => Role::Properties,
+        "condition" => Role::Text,
+        "dependsOn" => Role::Texts,
+        "aspects" => Role::Entries(schema),
+        "deletionPolicy" | "updateReplacePolicy" => Role::Policy,
+        _ => element_member(schema, key),
     }
 }
 
 fn parameter_member(schema: Schema, key: &str) -> Role
     ensures { result ≡ spec_kind_member schema kinds.Parameter key.now }
 {
-    if key == "type" {
-        Role::ParameterType
-    } else if key == "default" {
-        Role::Text
-    } else if key == "description" {
-        Role::Text
-    } else {
-        element_member(schema, key)
+    match key {
+        "type" => Role::ParameterType,
+        "default" | "description" => Role::Text,
+        _ => element_member(schema, key),
     }
 }
 
 fn output_member(schema: Schema, key: &str) -> Role
     ensures { result ≡ spec_kind_member schema kinds.Output key.now }
 {
-    if key == "value" {
-        Role::Expression(Within::Construct)
-    } else if key == "description" {
-        Role::Text
-    } else if key == "exportName" {
-        Role::ExportName
-    } else if key == "condition" {
-        Role::Text
-    } else {
-        element_member(schema, key)
+    match key {
+        "value" => Role::Expression(Within::Construct),
+        "description" => Role::Text,
+        "exportName" => Role::ExportName,
+        "condition" => Role::Text,
+        _ => element_member(schema, key),
     }
 }
 
@@ -257,28 +228,21 @@ fn kind_member(schema: Schema, kind: KindName, key: &str) -> Role
 fn construct_member(schema: Schema, kind: KindName, key: &str) -> Role
     ensures { result ≡ spec_construct_member schema kind key.now }
 {
-    if key == "kind" {
-        Role::Text
-    } else if key == "id" {
-        Role::Text
-    } else if key == "context" {
-        Role::Context
-    } else {
-        kind_member(schema, kind, key)
+    match key {
+        "kind" | "id" => Role::Text,
+        "context" => Role::Context,
+        _ => kind_member(schema, kind, key),
     }
 }
 
 fn entry_member(schema: Schema, key: &str) -> Role
     ensures { result ≡ spec_entry_member schema key.now }
 {
-    if key == "name" {
-        Role::Text
-    } else if key == "with" {
-        Role::FreeLiteral
-    } else if key == "priority" {
-        in_schema_2(schema, Role::Priority)
-    } else {
-        Role::Nothing
+    match key {
+        "name" => Role::Text,
+        "with" => Role::FreeLiteral,
+        "priority" => in_schema_2(schema, Role::Priority),
+        _ => Role::Nothing,
     }
 }
 
@@ -314,18 +278,12 @@ fn form_member(within: Within, key: &str) -> Role
 fn condition_member(key: &str) -> Role
     ensures { result ≡ spec_condition_member key.now }
 {
-    if key == "Fn::Equals" {
-        Role::EqualsArguments
-    } else if key == "Fn::And" {
-        Role::ConditionArguments
-    } else if key == "Fn::Or" {
-        Role::ConditionArguments
-    } else if key == "Fn::Not" {
-        Role::NotArguments
-    } else if key == "Condition" {
-        Role::Text
-    } else {
-        Role::Nothing
+    match key {
+        "Fn::Equals" => Role::EqualsArguments,
+        "Fn::And" | "Fn::Or" => Role::ConditionArguments,
+        "Fn::Not" => Role::NotArguments,
+        "Condition" => Role::Text,
+        _ => Role::Nothing,
     }
 }
 

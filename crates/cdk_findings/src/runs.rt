@@ -1,7 +1,7 @@
 // Runs of literals in Concats and Subs, byte by byte, without joining their texts.
-ghost use Rattle.std.specs.Prelude.{◌≡◌, ◌+◌, ◌<◌, ◌≤◌, ◌≢◌, ◌∷◌, [], ◌++◌, codes, false, length, IfOk, OnOk, OnErr, MatchOption};
+ghost use Rattle.std.specs.Prelude.{◌≡◌, ◌+◌, ◌<◌, ◌≤◌, ◌∷◌, [], ◌++◌, codes, false, IfOk, OnOk, OnErr};
 ghost use Rattle.serde_json.specs.View.{view, items_view, members_view};
-ghost use Rattle.serde_json.specs.Data.{boolean};
+ghost use Rattle.serde_json.specs.Data.{boolean, array};
 ghost use Rattle.cdk_base.specs.Json.{text_of};
 ghost use Rattle.cdk_language.specs.Findings.{is_marked_form as spec_is_marked_form, is_joined_marked as spec_is_joined_marked};
 ghost use Rattle.cdk_language.specs.Runs.{no_literal, literals_of, form_literals, concat_literals, items_literals, substituted_literals, sub_literals, piece_literals, variables_literals};
@@ -14,7 +14,7 @@ ghost use Rattle.cdk_findings.specs.Reads.{Reads, step as spec_step};
 use crate::texts::is_wrong_sub_text;
 use cdk_base::{Map, Value};
 use cdk_language::{FirstPiece, Role, SubPiece, Within, first_piece, is_variable_name};
-use cdk_members::member;
+use cdk_members::{member, only_member, two_of};
 use std::alloc::AllocError;
 
 /// How many bytes of `${Token[` or `#{Token[` the end of the run matches: 8 where the run holds one.
@@ -108,16 +108,6 @@ fn read_plain_sub(matched: usize, text: &str) -> usize
     }
 }
 
-/// The two items, where there are two.
-fn two_of(items: &Vec<Value>) -> Option<(&Value, &Value)>
-    ensures { MatchOption result (length items.now.items ≢ 2) (λ p. items.now.items ≡ p.0.now ∷ p.1.now ∷ []) }
-{
-    match items.as_slice() {
-        [first, second] => Some((first, second)),
-        _ => None,
-    }
-}
-
 /// Takes 16 and the bytes of a text from what is left to walk, or is refused and takes nothing.
 fn spend(left: &mut u64, bytes: usize) -> Result<(), AllocError>
     ensures spent { OnOk result (left.new + bytes + 16 ≡ left.old) }
@@ -131,6 +121,16 @@ fn spend(left: &mut u64, bytes: usize) -> Result<(), AllocError>
     };
     *left = after;
     Ok(())
+}
+
+/// The run goes on with a Sub whose argument is its text alone.
+fn read_text_sub(left: &mut u64, matched: usize, text: &str) -> Result<usize, AllocError>
+    requires { matched ≤ 8 }
+    ensures fewer { left.new ≤ left.old }
+    ensures reads { IfOk result (λ m. Reads matched (sub_literals [] (pieces_of text.now)) m) }
+{
+    spend(left, text.len())?;
+    Ok(read_plain_sub(matched, text))
 }
 
 /// The run goes on with a value as a piece: with the pieces of a Concat or a Sub one by one. What is left to walk falls
@@ -163,21 +163,14 @@ fn read_form(left: &mut u64, matched: usize, members: &Map) -> Result<usize, All
     ensures fewer { left.new ≤ left.old }
     ensures reads { IfOk result (λ m. Reads matched (form_literals (members_view members.now.entries)) m) }
 {
-    let mut entries = members.iter();
-    let Some((key, member)) = entries.next() else {
+    let Some((key, member)) = only_member(members) else {
         return Ok(read_other(matched));
     };
-    if entries.next().is_some() {
-        return Ok(read_other(matched));
+    match key.as_str() {
+        "CDK::Concat" => read_concat(left, matched, member),
+        "Fn::Sub" => read_sub(left, matched, member),
+        _ => Ok(read_other(matched)),
     }
-    let key = key.as_str();
-    if key == "CDK::Concat" {
-        return read_concat(left, matched, member);
-    }
-    if key == "Fn::Sub" {
-        return read_sub(left, matched, member);
-    }
-    Ok(read_other(matched))
 }
 
 #[cycle(runs)]
@@ -212,28 +205,33 @@ fn read_sub(left: &mut u64, matched: usize, value: &Value) -> Result<usize, Allo
     ensures reads { IfOk result (λ m. Reads matched (substituted_literals (view value.now)) m) }
 {
     match value {
-        Value::String(text) => {
-            spend(left, text.as_str().len())?;
-            Ok(read_plain_sub(matched, text.as_str()))
-        }
-        Value::Array(items) => {
-            let Some((text, variables)) = two_of(items) else {
-                return Ok(read_other(matched));
-            };
-            let Value::Object(members) = variables else {
-                return Ok(read_other(matched));
-            };
-            let Some(text) = text.as_str() else {
-                return Ok(read_other(matched));
-            };
-            spend(left, text.len())?;
-            if is_wrong_sub_text(Within::Construct, text) {
-                return Ok(read_other(matched));
-            }
-            read_pieces(left, matched, text, members)
-        }
+        Value::String(text) => read_text_sub(left, matched, text.as_str()),
+        Value::Array(items) => read_array_sub(left, matched, items),
         _ => Ok(read_other(matched)),
     }
+}
+
+/// The run goes on with a Sub whose argument is an array of its text and its variables.
+#[cycle(runs)]
+fn read_array_sub(left: &mut u64, matched: usize, items: &Vec<Value>) -> Result<usize, AllocError>
+    requires { matched ≤ 8 }
+    ensures fewer { left.new ≤ left.old }
+    ensures reads { IfOk result (λ m. Reads matched (substituted_literals (array (items_view items.now.items))) m) }
+{
+    let Some((text, variables)) = two_of(items) else {
+        return Ok(read_other(matched));
+    };
+    let Some(variables) = variables.as_object() else {
+        return Ok(read_other(matched));
+    };
+    let Some(text) = text.as_str() else {
+        return Ok(read_other(matched));
+    };
+    spend(left, text.len())?;
+    if is_wrong_sub_text(Within::Construct, text) {
+        return Ok(read_other(matched));
+    }
+    read_pieces(left, matched, text, variables)
 }
 
 #[cycle(runs)]

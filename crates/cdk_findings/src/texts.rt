@@ -14,19 +14,19 @@ pub fn is_filled(text: &str) -> bool
 pub fn is_schema_name(text: &str) -> bool
     ensures { result ≡ spec_is_schema_name text.now }
 {
-    text == "1" || text == "2"
+    matches!(text, "1" | "2")
 }
 
 pub fn is_policy_name(text: &str) -> bool
     ensures { result ≡ spec_is_policy_name text.now }
 {
-    text == "Delete" || text == "Retain" || text == "Snapshot"
+    matches!(text, "Delete" | "Retain" | "Snapshot")
 }
 
 pub fn is_parameter_type(text: &str) -> bool
     ensures { result ≡ spec_is_parameter_type text.now }
 {
-    text == "String" || text == "Number" || text == "CommaDelimitedList"
+    matches!(text, "String" | "Number" | "CommaDelimitedList")
 }
 
 fn begins_character(byte: u8) -> bool

@@ -49,3 +49,6 @@ decreases-read_sub l = 8 * l.left.now + 3
 
 abbrev pub decreases-read_form : goal.decreases-read_form
 decreases-read_form l = 8 * l.left.now + 4
+
+abbrev pub decreases-read_array_sub : goal.decreases-read_array_sub
+decreases-read_array_sub l = 8 * l.left.now + 2
