@@ -1,3 +1,4 @@
+pub mod Arguments
 pub mod ConditionLemmas
 pub mod FormLemmas
 pub mod Reading

@@ -1,10 +1,5 @@
 -- Reading a list of values one after another.
-use Rattle.std.proofs.Common.{◌≡◌, ℕ, List, [], ◌∷◌, ◌++◌, Option, Some, None, option_map, option_and_then, length, ◌≢◌, refl, ap, sym, ◌∙◌}
-use Rattle.serde_json.specs.Data.{Data, null, boolean, number, string, array, object, Items, no_items, item, Members}
-use Rattle.serde_json.specs.Find.{as_str}
-use Rattle.serde_json.specs.View.{items_view, view as json_view}
-use Rattle.serde_json.specs.declared.value.Value.{Value}
-use Rattle.cdk_language.specs.Application.{get_att_of, context_of, join_of, select_of, split_of, choice_of, find_in_map_of, substituted_of, sub_of, fields_of}
+use Rattle.std.proofs.Common.{◌≡◌, ℕ, List, [], ◌∷◌, ◌++◌, Option, Some, None, option_map, option_and_then, refl, ap, ◌∙◌}
 use Rattle.cdk_language.specs.Expression as expression
 use Rattle.cdk_language.specs.Expression.{Expression, Expressions, no_expressions, Fields, no_fields, field, view, field_view, expressions_view, fields_view, expression_step, field_step}
 use Rattle.cdk_language.specs.declared.expression.Expr.{Expr}
@@ -27,65 +22,6 @@ all_read es all e = e ∙ ap Some (before-none es)
 pub read_next : (es : List Expr) (e : Expr) (first : Option Expression) (r : Option Expressions) (whole : Option Expressions)
     → whole ≡ option_map (before es) (option_and_then (λ c. option_map (expression.expression c) r) first) → first ≡ Some (view e) → whole ≡ option_map (before (es ++ e ∷ [])) r
 read_next es e first r whole was here = was ∙ ap (λ o. option_map (before es) (option_and_then (λ c. option_map (expression.expression c) r) o)) here ∙ one_more es e r
-
--- where there are not two items
-pub no_get_att : (vs : List Value) → length vs ≢ 2 → get_att_of (array (items_view vs)) ≡ None
-no_get_att [] h = refl
-no_get_att (v ∷ []) h = refl
-no_get_att (v ∷ w ∷ []) h = absurd (h refl)
-no_get_att (v ∷ w ∷ x ∷ vs) h = refl
-
-pub no_context : (vs : List Value) → length vs ≢ 1 → length vs ≢ 2 → context_of (array (items_view vs)) ≡ None
-no_context [] h k = refl
-no_context (v ∷ []) h k = absurd (h refl)
-no_context (v ∷ w ∷ []) h k = absurd (k refl)
-no_context (v ∷ w ∷ x ∷ vs) h k = refl
-
-pub no_join : (vs : List Value) → length vs ≢ 2 → join_of (array (items_view vs)) ≡ None
-no_join [] h = refl
-no_join (v ∷ []) h = refl
-no_join (v ∷ w ∷ []) h = absurd (h refl)
-no_join (v ∷ w ∷ x ∷ vs) h = refl
-
-pub no_select : (vs : List Value) → length vs ≢ 2 → select_of (array (items_view vs)) ≡ None
-no_select [] h = refl
-no_select (v ∷ []) h = refl
-no_select (v ∷ w ∷ []) h = absurd (h refl)
-no_select (v ∷ w ∷ x ∷ vs) h = refl
-
-pub no_split : (vs : List Value) → length vs ≢ 2 → split_of (array (items_view vs)) ≡ None
-no_split [] h = refl
-no_split (v ∷ []) h = refl
-no_split (v ∷ w ∷ []) h = absurd (h refl)
-no_split (v ∷ w ∷ x ∷ vs) h = refl
-
-pub no_choice : (vs : List Value) → length vs ≢ 3 → choice_of (array (items_view vs)) ≡ None
-no_choice [] h = refl
-no_choice (v ∷ []) h = refl
-no_choice (v ∷ w ∷ []) h = refl
-no_choice (v ∷ w ∷ x ∷ []) h = absurd (h refl)
-no_choice (v ∷ w ∷ x ∷ y ∷ vs) h = refl
-
-pub no_find_in_map : (vs : List Value) → length vs ≢ 3 → find_in_map_of (array (items_view vs)) ≡ None
-no_find_in_map [] h = refl
-no_find_in_map (v ∷ []) h = refl
-no_find_in_map (v ∷ w ∷ []) h = refl
-no_find_in_map (v ∷ w ∷ x ∷ []) h = absurd (h refl)
-no_find_in_map (v ∷ w ∷ x ∷ y ∷ vs) h = refl
-
-pub no_substituted : (vs : List Value) → length vs ≢ 2 → substituted_of (array (items_view vs)) ≡ None
-no_substituted [] h = refl
-no_substituted (v ∷ []) h = refl
-no_substituted (v ∷ w ∷ []) h = absurd (h refl)
-no_substituted (v ∷ w ∷ x ∷ vs) h = three_are_none (json_view v) (json_view w) (json_view x) (items_view vs)
-  where
-    three_are_none : (d e f : Data) (ds : Items) → substituted_of (array (item d (item e (item f ds)))) ≡ None
-    three_are_none d null f ds = refl
-    three_are_none d (boolean b) f ds = refl
-    three_are_none d (number n) f ds = refl
-    three_are_none d (string s) f ds = refl
-    three_are_none d (array es) f ds = refl
-    three_are_none d (object ms) f ds = refl
 
 -- ---- fields
 
@@ -129,9 +65,3 @@ made k e = roll-Field (record { key = k; value = e })
 
 pub field_view-made : (k : List ℕ) (e : Expr) → field_view (made k e) ≡ (k, view e)
 field_view-made k e = fold-roll-Field Expression (List ℕ × Expression) expression_step field_step (record { key = k; value = e })
-
--- a text with its variables
-pub sub_with : (v : Data) (vs : Items) (d e : Data) (ms : Members) (s : List ℕ) → v ≡ array vs → vs ≡ item d (item e no_items) → e ≡ object ms → Some s ≡ as_str d → substituted_of v ≡ option_and_then (sub_of s) (fields_of ms)
-sub_with v vs d e ms s is two held text =
-    ap substituted_of (is ∙ ap array (two ∙ ap (λ x. item d (item x no_items)) held))
-    ∙ ap (option_and_then (λ t. option_and_then (sub_of t) (fields_of ms))) (sym text)

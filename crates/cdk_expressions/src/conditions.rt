@@ -1,10 +1,10 @@
 // The condition that a JSON value is.
 ghost use Rattle.std.specs.Prelude.{◌≡◌, option_map};
-ghost use Rattle.serde_json.specs.Data.{object};
+ghost use Rattle.serde_json.specs.Data.{array, object, item, member, no_items, no_members};
 ghost use Rattle.serde_json.specs.Find.{as_str};
 ghost use Rattle.serde_json.specs.View.{view as json_view, items_view, members_view};
 ghost use Rattle.cdk_language.specs.Application.{equals_of as equals_in, condition_of as condition_in, conditions_of as conditions_in, conditions_from as conditions_from_items, negated_of as negated_in};
-ghost use Rattle.cdk_language.specs.Condition.{named, view, conditions_view};
+ghost use Rattle.cdk_language.specs.Condition.{named, all_of, any_of, negated as negation, view, conditions_view};
 ghost use Rattle.cdk_members.specs.Gives.{Gives};
 
 use crate::expressions::read_expression;
@@ -30,24 +30,36 @@ pub fn read_condition(alloc: Global, copies: &mut Copies, value: &Value) -> Resu
 fn form_of(alloc: Global, copies: &mut Copies, members: &Map) -> Result<Cond, ReadError>
     ensures { Gives view result (condition_in (object (members_view members.now.entries))) }
 {
-    let Some((key, member)) = only_member(members) else {
-        return Err(ReadError::Shape);
-    };
-    let key = key.as_str();
-    if key == "Fn::Equals" {
-        return equals_of(alloc, copies, member);
+    match only_member(members) {
+        Some((key, member)) => form_with(alloc, copies, key.as_str(), member),
+        None => Err(ReadError::Shape),
     }
-    if key == "Fn::And" {
-        return Ok(Cond::And(conditions_of(alloc, copies, member)?));
+}
+
+/// The form of the name, with its arguments.
+#[cycle(conditions)]
+fn form_with(
+    alloc: Global,
+    copies: &mut Copies,
+    name: &str,
+    value: &Value,
+) -> Result<Cond, ReadError>
+    ensures { Gives view result (condition_in (object (member name.now (json_view value.now) no_members))) }
+{
+    if name == "Fn::Equals" {
+        return equals_of(alloc, copies, value);
     }
-    if key == "Fn::Or" {
-        return Ok(Cond::Or(conditions_of(alloc, copies, member)?));
+    if name == "Fn::And" {
+        return and_of(alloc, copies, value);
     }
-    if key == "Fn::Not" {
-        return negated_of(alloc, copies, member);
+    if name == "Fn::Or" {
+        return or_of(alloc, copies, value);
     }
-    if key == "Condition" {
-        return named_of(alloc, member);
+    if name == "Fn::Not" {
+        return negated_of(alloc, copies, value);
+    }
+    if name == "Condition" {
+        return named_of(alloc, value);
     }
     Err(ReadError::Shape)
 }
@@ -58,12 +70,28 @@ fn equals_of(alloc: Global, copies: &mut Copies, value: &Value) -> Result<Cond, 
     let Value::Array(items) = value else {
         return Err(ReadError::Shape);
     };
-    let Some((first, second)) = two_of(items) else {
-        return Err(ReadError::Shape);
-    };
+    match two_of(items) {
+        Some((first, second)) => equals(alloc, copies, first, second),
+        None => Err(ReadError::Shape),
+    }
+}
+
+fn equals(
+    alloc: Global,
+    copies: &mut Copies,
+    first: &Value,
+    second: &Value,
+) -> Result<Cond, ReadError>
+    ensures { Gives view result (equals_in (array (item (json_view first.now) (item (json_view second.now) no_items)))) }
+{
     let first = read_expression(alloc, copies, first)?;
-    let second = read_expression(alloc, copies, second)?;
-    Ok(Cond::Equals(first, second))
+    match read_expression(alloc, copies, second) {
+        Ok(second) => Ok(Cond::Equals(first, second)),
+        Err(error) => {
+            drop(first);
+            Err(error)
+        }
+    }
 }
 
 fn named_of(alloc: Global, value: &Value) -> Result<Cond, ReadError>
@@ -73,6 +101,22 @@ fn named_of(alloc: Global, value: &Value) -> Result<Cond, ReadError>
         Some(s) => Ok(Cond::Named(Text::new(alloc, s)?)),
         None => Err(ReadError::Shape),
     }
+}
+
+#[cycle(conditions)]
+fn and_of(alloc: Global, copies: &mut Copies, value: &Value) -> Result<Cond, ReadError>
+    ensures { Gives view result (option_map all_of (conditions_in (json_view value.now))) }
+{
+    let conditions = conditions_of(alloc, copies, value)?;
+    Ok(Cond::And(conditions))
+}
+
+#[cycle(conditions)]
+fn or_of(alloc: Global, copies: &mut Copies, value: &Value) -> Result<Cond, ReadError>
+    ensures { Gives view result (option_map any_of (conditions_in (json_view value.now))) }
+{
+    let conditions = conditions_of(alloc, copies, value)?;
+    Ok(Cond::Or(conditions))
 }
 
 #[cycle(conditions)]
@@ -107,9 +151,16 @@ fn negated_of(alloc: Global, copies: &mut Copies, value: &Value) -> Result<Cond,
     let Value::Array(items) = value else {
         return Err(ReadError::Shape);
     };
-    let Some(only) = one_of(items) else {
-        return Err(ReadError::Shape);
-    };
-    let inner = read_condition(alloc, copies, only)?;
+    match one_of(items) {
+        Some(only) => negated(alloc, copies, only),
+        None => Err(ReadError::Shape),
+    }
+}
+
+#[cycle(conditions)]
+fn negated(alloc: Global, copies: &mut Copies, value: &Value) -> Result<Cond, ReadError>
+    ensures { Gives view result (option_map negation (condition_in (json_view value.now))) }
+{
+    let inner = read_condition(alloc, copies, value)?;
     Ok(Cond::Not(Box::new(alloc, inner)?))
 }

@@ -1,10 +1,13 @@
 // The expression that a JSON value is: one function for each form.
-ghost use Rattle.std.specs.Prelude.{◌≡◌, option_map, option_and_then};
+ghost use Rattle.std.specs.Prelude.{◌≡◌, ◌<◌, option_map, option_and_then};
+ghost use Rattle.std.specs.Option.{IfSome};
 ghost use Rattle.serde_json.specs.Find.{as_integer, as_str};
+ghost use Rattle.serde_json.specs.declared.value.Value.{size-Value};
 ghost use Rattle.serde_json.specs.View.{view as json_view, number_view, items_view, members_view};
 ghost use Rattle.cdk_language.specs.Application.{expression_of as expression_in, expressions_of as expressions_in, fields_of as fields_in, form_of as form_in, get_att_of as get_att_in, context_of as context_in_json, join_of as join_in, select_of as select_in, split_of as split_in, choice_of as choice_in, find_in_map_of as find_in_map_in, concat_of as concat_in, substituted_of as substituted_in, ref_of as reference_in, sub_of};
-ghost use Rattle.cdk_language.specs.Expression.{whole, lazy, import_value, view, field_view, expressions_view, fields_view};
+ghost use Rattle.cdk_language.specs.Expression.{whole, lazy, import_value, no_fields, view, field_view, expressions_view, fields_view};
 ghost use Rattle.cdk_members.specs.Gives.{Gives};
+ghost use Rattle.cdk_expressions.specs.Arguments.{lone_text as spec_lone_text, text_then, index_then, text_then_two, text_then_expression, text_then_two_expressions};
 ghost use Rattle.cdk_expressions.specs.Forms.{form_with as spec_form_with};
 
 use cdk_base::{List, Map, Text, Value};
@@ -174,19 +177,47 @@ fn lazy_of(alloc: Global, value: &Value) -> Result<Expr, ReadError>
     }
 }
 
+/// The text and the value of an array of these two.
+fn text_and_value(value: &Value) -> Option<(&str, &Value)>
+    ensures parts { option_map (λ p. (p.0.now, json_view p.1.now)) result ≡ text_then (json_view value.now) }
+    ensures smaller { IfSome result (λ p. size-Value p.1.now < size-Value value.now) }
+{
+    let Value::Array(items) = value else {
+        return None;
+    };
+    let Some((text, value)) = two_of(items) else {
+        return None;
+    };
+    let Some(text) = text.as_str() else {
+        return None;
+    };
+    Some((text, value))
+}
+
+/// The text and the two values of an array of these three.
+fn text_and_two_values(value: &Value) -> Option<(&str, &Value, &Value)>
+    ensures parts { option_map (λ p. (p.0.now, (json_view p.1.now, json_view p.2.now))) result ≡ text_then_two (json_view value.now) }
+    ensures smaller { IfSome result (λ p. (size-Value p.1.now < size-Value value.now) × (size-Value p.2.now < size-Value value.now)) }
+{
+    let Value::Array(items) = value else {
+        return None;
+    };
+    let Some((text, first, second)) = three_of(items) else {
+        return None;
+    };
+    let Some(text) = text.as_str() else {
+        return None;
+    };
+    Some((text, first, second))
+}
+
 fn get_att_of(alloc: Global, value: &Value) -> Result<Expr, ReadError>
     ensures { Gives view result (get_att_in (json_view value.now)) }
 {
-    let Value::Array(items) = value else {
+    let Some((target, attribute)) = text_and_value(value) else {
         return Err(ReadError::Shape);
     };
-    let Some((first, second)) = two_of(items) else {
-        return Err(ReadError::Shape);
-    };
-    let Some(target) = first.as_str() else {
-        return Err(ReadError::Shape);
-    };
-    let Some(attribute) = second.as_str() else {
+    let Some(attribute) = attribute.as_str() else {
         return Err(ReadError::Shape);
     };
     let target = Text::new(alloc, target)?;
@@ -194,22 +225,26 @@ fn get_att_of(alloc: Global, value: &Value) -> Result<Expr, ReadError>
     Ok(Expr::GetAtt(target, attribute))
 }
 
+/// The text of an array that holds nothing else.
+fn lone_text(value: &Value) -> Option<&str>
+    ensures { option_map (λ s. s.now) result ≡ spec_lone_text (json_view value.now) }
+{
+    let Value::Array(items) = value else {
+        return None;
+    };
+    match one_of(items) {
+        Some(key) => key.as_str(),
+        None => None,
+    }
+}
+
 fn context_of(alloc: Global, value: &Value) -> Result<Expr, ReadError>
     ensures { Gives view result (context_in_json (json_view value.now)) }
 {
-    let Value::Array(items) = value else {
-        return Err(ReadError::Shape);
-    };
-    if let Some(key) = one_of(items) {
-        let Some(key) = key.as_str() else {
-            return Err(ReadError::Shape);
-        };
+    if let Some(key) = lone_text(value) {
         return Ok(Expr::Context(Text::new(alloc, key)?, None));
     }
-    let Some((key, default)) = two_of(items) else {
-        return Err(ReadError::Shape);
-    };
-    let Some(key) = key.as_str() else {
+    let Some((key, default)) = text_and_value(value) else {
         return Err(ReadError::Shape);
     };
     let key = Text::new(alloc, key)?;
@@ -217,55 +252,81 @@ fn context_of(alloc: Global, value: &Value) -> Result<Expr, ReadError>
     Ok(Expr::Context(key, Some(default)))
 }
 
+/// The text of an array, and the expression of the value behind it.
+#[cycle(read)]
+fn text_and_expression(
+    alloc: Global,
+    copies: &mut Copies,
+    value: &Value,
+) -> Result<(Text, Box<Expr>), ReadError>
+    ensures { Gives (λ p. (p.0, view p.1.value)) result (text_then_expression (json_view value.now)) }
+{
+    let Some((text, value)) = text_and_value(value) else {
+        return Err(ReadError::Shape);
+    };
+    let text = Text::new(alloc, text)?;
+    let expression = read_boxed(alloc, copies, value)?;
+    Ok((text, expression))
+}
+
+/// The text of an array, and the expressions of the two values behind it.
+#[cycle(read)]
+fn text_and_two_expressions(
+    alloc: Global,
+    copies: &mut Copies,
+    value: &Value,
+) -> Result<(Text, Box<Expr>, Box<Expr>), ReadError>
+    ensures { Gives (λ p. (p.0, (view p.1.value, view p.2.value))) result (text_then_two_expressions (json_view value.now)) }
+{
+    let Some((text, first, second)) = text_and_two_values(value) else {
+        return Err(ReadError::Shape);
+    };
+    let text = Text::new(alloc, text)?;
+    let first = read_boxed(alloc, copies, first)?;
+    let second = read_boxed(alloc, copies, second)?;
+    Ok((text, first, second))
+}
+
 #[cycle(read)]
 fn join_of(alloc: Global, copies: &mut Copies, value: &Value) -> Result<Expr, ReadError>
     ensures { Gives view result (join_in (json_view value.now)) }
 {
-    let Value::Array(items) = value else {
-        return Err(ReadError::Shape);
-    };
-    let Some((first, second)) = two_of(items) else {
-        return Err(ReadError::Shape);
-    };
-    let Some(delimiter) = first.as_str() else {
-        return Err(ReadError::Shape);
-    };
-    let delimiter = Text::new(alloc, delimiter)?;
-    let list = read_boxed(alloc, copies, second)?;
+    let (delimiter, list) = text_and_expression(alloc, copies, value)?;
     Ok(Expr::Join(delimiter, list))
+}
+
+/// The index and the value of an array of these two.
+fn index_and_value(value: &Value) -> Option<(u64, &Value)>
+    ensures parts { option_map (λ p. (p.0, json_view p.1.now)) result ≡ index_then (json_view value.now) }
+    ensures smaller { IfSome result (λ p. size-Value p.1.now < size-Value value.now) }
+{
+    let Value::Array(items) = value else {
+        return None;
+    };
+    let Some((index, value)) = two_of(items) else {
+        return None;
+    };
+    let Some(index) = index.as_u64() else {
+        return None;
+    };
+    Some((index, value))
 }
 
 #[cycle(read)]
 fn select_of(alloc: Global, copies: &mut Copies, value: &Value) -> Result<Expr, ReadError>
     ensures { Gives view result (select_in (json_view value.now)) }
 {
-    let Value::Array(items) = value else {
+    let Some((index, list)) = index_and_value(value) else {
         return Err(ReadError::Shape);
     };
-    let Some((first, second)) = two_of(items) else {
-        return Err(ReadError::Shape);
-    };
-    let Some(index) = first.as_u64() else {
-        return Err(ReadError::Shape);
-    };
-    Ok(Expr::Select(index, read_boxed(alloc, copies, second)?))
+    Ok(Expr::Select(index, read_boxed(alloc, copies, list)?))
 }
 
 #[cycle(read)]
 fn split_of(alloc: Global, copies: &mut Copies, value: &Value) -> Result<Expr, ReadError>
     ensures { Gives view result (split_in (json_view value.now)) }
 {
-    let Value::Array(items) = value else {
-        return Err(ReadError::Shape);
-    };
-    let Some((first, second)) = two_of(items) else {
-        return Err(ReadError::Shape);
-    };
-    let Some(delimiter) = first.as_str() else {
-        return Err(ReadError::Shape);
-    };
-    let delimiter = Text::new(alloc, delimiter)?;
-    let text = read_boxed(alloc, copies, second)?;
+    let (delimiter, text) = text_and_expression(alloc, copies, value)?;
     Ok(Expr::Split(delimiter, text))
 }
 
@@ -273,18 +334,7 @@ fn split_of(alloc: Global, copies: &mut Copies, value: &Value) -> Result<Expr, R
 fn choice_of(alloc: Global, copies: &mut Copies, value: &Value) -> Result<Expr, ReadError>
     ensures { Gives view result (choice_in (json_view value.now)) }
 {
-    let Value::Array(items) = value else {
-        return Err(ReadError::Shape);
-    };
-    let Some((first, second, third)) = three_of(items) else {
-        return Err(ReadError::Shape);
-    };
-    let Some(condition) = first.as_str() else {
-        return Err(ReadError::Shape);
-    };
-    let condition = Text::new(alloc, condition)?;
-    let holds = read_boxed(alloc, copies, second)?;
-    let fails = read_boxed(alloc, copies, third)?;
+    let (condition, holds, fails) = text_and_two_expressions(alloc, copies, value)?;
     Ok(Expr::If(condition, holds, fails))
 }
 
@@ -292,18 +342,7 @@ fn choice_of(alloc: Global, copies: &mut Copies, value: &Value) -> Result<Expr, 
 fn find_in_map_of(alloc: Global, copies: &mut Copies, value: &Value) -> Result<Expr, ReadError>
     ensures { Gives view result (find_in_map_in (json_view value.now)) }
 {
-    let Value::Array(items) = value else {
-        return Err(ReadError::Shape);
-    };
-    let Some((first, second, third)) = three_of(items) else {
-        return Err(ReadError::Shape);
-    };
-    let Some(mapping) = first.as_str() else {
-        return Err(ReadError::Shape);
-    };
-    let mapping = Text::new(alloc, mapping)?;
-    let row = read_boxed(alloc, copies, second)?;
-    let column = read_boxed(alloc, copies, third)?;
+    let (mapping, row, column) = text_and_two_expressions(alloc, copies, value)?;
     Ok(Expr::FindInMap(mapping, row, column))
 }
 
@@ -317,27 +356,28 @@ fn concat_of(alloc: Global, copies: &mut Copies, value: &Value) -> Result<Expr, 
     }
 }
 
+/// The text that has no variables of its own.
+fn substituted_alone(alloc: Global, copies: &mut Copies, text: &str) -> Result<Expr, ReadError>
+    ensures { Gives view result (sub_of text.now no_fields) }
+{
+    let none = List::new(alloc);
+    substituted(alloc, copies, text, &none)
+}
+
 #[cycle(read)]
 fn substituted_of(alloc: Global, copies: &mut Copies, value: &Value) -> Result<Expr, ReadError>
     ensures { Gives view result (substituted_in (json_view value.now)) }
 {
     if let Some(text) = value.as_str() {
-        let none = List::new(alloc);
-        return substituted(alloc, copies, text, &none);
+        return substituted_alone(alloc, copies, text);
     }
-    let Value::Array(items) = value else {
+    let Some((text, variables)) = text_and_value(value) else {
         return Err(ReadError::Shape);
     };
-    let Some((first, second)) = two_of(items) else {
-        return Err(ReadError::Shape);
-    };
-    let Some(text) = first.as_str() else {
-        return Err(ReadError::Shape);
-    };
-    let Value::Object(members) = second else {
-        return Err(ReadError::Shape);
-    };
-    substituted_with(alloc, copies, text, members)
+    match variables {
+        Value::Object(members) => substituted_with(alloc, copies, text, members),
+        _ => Err(ReadError::Shape),
+    }
 }
 
 /// The text with the members as its variables, all of which are read, also those that it doesn't use.

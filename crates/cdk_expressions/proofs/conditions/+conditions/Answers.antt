@@ -1,8 +1,11 @@
 use Rattle.std.proofs.Common.{◌≡◌, [], ◌∷◌, ◌+◌, drop, option_map, sym, ap, ◌∙◌, arith}
 use Rattle.std.proofs.lemmas.List.{drop_more, drop_all}
-use Rattle.serde_json.specs.View.{view as json_view, items_view}
+use Rattle.serde_json.specs.Data.{object, member, no_members}
+use Rattle.serde_json.specs.View.{view as json_view, items_view, members_view}
 use Rattle.serde_json.proofs.Views.{view-Array}
 use Rattle.cdk_language.specs.Application.{condition_of, conditions_from, negated_of}
+use Rattle.cdk_language.specs.Condition.{view}
+use Rattle.cdk_members.proofs.Giving.{gives}
 use Rattle.cdk_expressions.proofs.ConditionLemmas.{conditions_before, read_next_condition, all_conditions_read, no_negated}
 use Rattle.cdk_expressions.proofs.FormLemmas.{no_condition}
 use Rattle.cdk_expressions.proofs.conditions.+conditions.Goals as goal
@@ -25,9 +28,14 @@ conditions_from-returns t c =
     ap (λ ys. conditions_from (items_view ys)) (sym c.deref-item-items.ensures.value)
     ∙ all_conditions_read l.found _ (l.invariant ∙ ap (λ ys. option_map (conditions_before l.found) (conditions_from (items_view ys))) none)
 
-pub negated_of-returns-in_default-one_of : goal.negated_of-returns-in_default-one_of
-negated_of-returns-in_default-one_of t c =
-    ap negated_of (ap json_view c.in-Array.is ∙ view-Array c.in-Array.items) ∙ no_negated c.in-Array.items.items c.in_default-one_of.ensures
+pub negated_of-returns-in-None : goal.negated_of-returns-in-None
+negated_of-returns-in-None t c =
+    ap negated_of (ap json_view c.in-Array.is ∙ view-Array c.in-Array.items) ∙ no_negated c.in-Array.items.items c.in-None.ensures
 
-pub form_of-returns-in_default : goal.form_of-returns-in_default
-form_of-returns-in_default t c = no_condition c.args.members.now.entries c.in_default.ensures
+pub form_of-returns-in-None : goal.form_of-returns-in-None
+form_of-returns-in-None t c = no_condition c.args.members.now.entries c.in-None.ensures
+
+pub form_of-returns-in-Some : goal.form_of-returns-in-Some
+form_of-returns-in-Some t c =
+    let d = json_view c.in-Some.member.now in
+    gives view _ _ _ c.form_with.ensures (ap (λ es. condition_of (object (members_view es))) c.in-Some.ensures ∙ ap (λ k. condition_of (object (member k d no_members))) (sym c.as_str.ensures.value))

@@ -5,6 +5,6 @@ use Rattle.cdk_language.specs.Application.{equals_of}
 use Rattle.cdk_expressions.proofs.ConditionLemmas.{no_equals}
 use Rattle.cdk_expressions.proofs.conditions.equals_of.Goals as goal
 
-pub returns-in_default-two_of : goal.returns-in_default-two_of
-returns-in_default-two_of c =
-    ap equals_of (ap view c.in-Array.is ∙ view-Array c.in-Array.items) ∙ no_equals c.in-Array.items.items c.in_default-two_of.ensures
+pub returns-in-None : goal.returns-in-None
+returns-in-None c =
+    ap equals_of (ap view c.in-Array.is ∙ view-Array c.in-Array.items) ∙ no_equals c.in-Array.items.items c.in-None.ensures
