@@ -1,5 +1,6 @@
 mod Acyclic
 mod Apart
 mod Counting
+mod Onward
 mod Placing
 mod Search

@@ -3,7 +3,7 @@ ghost use Rattle.std.specs.Prelude.{◌≡◌, ℕ, List, [], ◌∷◌, true, f
 ghost use Rattle.std.specs.Ordering.{nat_cmp};
 ghost use Rattle.std.specs.Cmp.Lexicographic.{slice_cmp};
 ghost use Rattle.std.specs.BTreeMap.{get_by};
-ghost use Rattle.cdk_eval.specs.Manifest.{StackArtifact, comes_back, cyclic};
+ghost use Rattle.cdk_eval.specs.Manifest.{StackArtifact, comes_back as spec_comes_back, cyclic};
 ghost use Rattle.cdk_artifacts.specs.Found.{texts_of, has_name, stack_view};
 ghost use Rattle.cdk_artifacts.specs.Ways.{leads_in, IsIndex, Grows, Pushed};
 
@@ -49,8 +49,7 @@ fn push_unseen<'m>(
         return Ok(());
     }
     seen.put(id)?;
-    open_ids.push(id)?;
-    Ok(())
+    open_ids.push(id)
 }
 
 /// Puts the stacks on which one depends to those that are open, each once; or tells that one is the goal.
@@ -87,25 +86,39 @@ fn push_dependencies<'m>(
     }
 }
 
-/// Whether the stack reaches itself by dependencies. It takes as many steps as the stacks that it reaches have
-/// dependencies.
-fn reaches_itself(alloc: Global, index: &Index<'_, '_>, id: &str) -> Result<bool, AllocError>
-    ensures { IfOk result (λ found. (ss : List StackArtifact) → IsIndex ss index.now → found ≡ comes_back ss id.now) }
+/// Whether the stack reaches itself, where nothing is seen yet and nothing is open.
+fn comes_back<'m>(
+    index: &Index<'_, 'm>,
+    id: &str,
+    seen: &mut NameSet<'m>,
+    open: &mut List<&'m str>,
+) -> Result<bool, AllocError>
+    requires unseen { (n : List ℕ) → has_name seen.old n ≡ false }
+    requires none_open { open.old ≡ [] }
+    ensures { IfOk result (λ found. (ss : List StackArtifact) → IsIndex ss index.now → found ≡ spec_comes_back ss id.now) }
 {
-    let mut seen = NameSet::new(alloc);
-    let mut open = List::new(alloc);
-    if push_dependencies(index, id, id, &mut seen, &mut open)? {
+    if push_dependencies(index, id, id, seen, open)? {
         return Ok(true);
     }
     'search: for _ in 0..u64::MAX {
         let Some(next) = open.pop() else {
             return Ok(false);
         };
-        if push_dependencies(index, next, id, &mut seen, &mut open)? {
+        if push_dependencies(index, next, id, seen, open)? {
             return Ok(true);
         }
     }
     Err(AllocError)
+}
+
+/// Whether the stack reaches itself by dependencies. It takes as many steps as the stacks that it reaches have
+/// dependencies.
+fn reaches_itself(alloc: Global, index: &Index<'_, '_>, id: &str) -> Result<bool, AllocError>
+    ensures { IfOk result (λ found. (ss : List StackArtifact) → IsIndex ss index.now → found ≡ spec_comes_back ss id.now) }
+{
+    let mut seen = NameSet::new(alloc);
+    let mut open = List::new(alloc);
+    comes_back(index, id, &mut seen, &mut open)
 }
 
 fn is_cyclic(
@@ -114,7 +127,7 @@ fn is_cyclic(
     placed: &NameSet<'_>,
     id: &str,
 ) -> Result<bool, AllocError>
-    ensures { IfOk result (λ found. (ss : List StackArtifact) → IsIndex ss index.now → ((n : List ℕ) → has_name placed.now n ≡ true → comes_back ss n ≡ false) → found ≡ comes_back ss id.now) }
+    ensures { IfOk result (λ found. (ss : List StackArtifact) → IsIndex ss index.now → ((n : List ℕ) → has_name placed.now n ≡ true → spec_comes_back ss n ≡ false) → found ≡ spec_comes_back ss id.now) }
 {
     if placed.has(id) {
         return Ok(false);
@@ -129,7 +142,7 @@ pub fn first_cycle<'m>(
     stacks: &[Stack<'m>],
     placed: &NameSet<'_>,
 ) -> Result<Option<&'m str>, AllocError>
-    requires { (n : List ℕ) → has_name placed.now n ≡ true → comes_back (map stack_view stacks.now) n ≡ false }
+    requires { (n : List ℕ) → has_name placed.now n ≡ true → spec_comes_back (map stack_view stacks.now) n ≡ false }
     ensures { IfOk result (λ id. option_map (λ i. i.now) id ≡ cyclic (map stack_view stacks.now)) }
 {
     let index = Index::of_stacks(alloc, stacks)?;

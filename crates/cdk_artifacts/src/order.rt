@@ -1,9 +1,11 @@
 // The order in which the stacks of a manifest are evaluated: each after those that it depends on, else by artifact id.
-ghost use Rattle.std.specs.Prelude.{◌≡◌, ◌++◌, ◌∷◌, [], ◌||◌, ℕ, List, map, length, slice_get, Some, IfOk, OnOk, bytes_eq, ◌<◌};
+ghost use Rattle.std.specs.Prelude.{◌≡◌, ◌++◌, ◌∷◌, [], ◌||◌, ℕ, List, false, map, length, slice_get, Some, IfOk, OnOk, bytes_eq, ◌<◌};
+ghost use Rattle.serde_json.specs.Data.{Data};
 ghost use Rattle.serde_json.specs.View.{view};
-ghost use Rattle.cdk_eval.specs.Manifest.{AreApart, ids as ids_of, in_order};
+ghost use Rattle.cdk_eval.specs.Manifest.{AreApart, ids as ids_of, in_order, stacks_of as spec_stacks_of};
 ghost use Rattle.cdk_eval.specs.Reach.{is_among};
 ghost use Rattle.cdk_artifacts.specs.Found.{stack_view, has_name};
+ghost use Rattle.cdk_artifacts.specs.Queued.{IsQueued, AreDependents};
 ghost use Rattle.cdk_artifacts.specs.Order.{IsOrder, file_view, file_of};
 
 use crate::cycle::first_cycle;
@@ -37,6 +39,18 @@ struct Placed<'m> {
     ids: NameSet<'m>,
 }
 
+impl<'m> Placed<'m> {
+    fn new(alloc: Global) -> Placed<'m>
+        ensures files { result.files.items ≡ [] }
+        ensures ids { (n : List ℕ) → has_name result.ids n ≡ false }
+    {
+        Placed {
+            files: Vec::new(alloc),
+            ids: NameSet::new(alloc),
+        }
+    }
+}
+
 fn place<'m>(placed: &mut Placed<'m>, stack: &Stack<'m>) -> Result<(), AllocError>
     ensures files { OnOk result (map file_view placed.new.files.items ≡ map file_view placed.old.files.items ++ file_of (stack_view stack.now) ∷ []) }
     ensures ids { OnOk result ((n : List ℕ) → has_name placed.new.ids n ≡ bytes_eq stack.now.id.now n || has_name placed.old.ids n) }
@@ -57,26 +71,53 @@ fn stack_at<'s, 'm>(stacks: &'s [Stack<'m>], number: usize) -> &'s Stack<'m>
 
 /// Places always next the stack of the least id whose dependencies are placed. It takes as many steps as the stacks have
 /// dependencies, and for each a look-up.
-fn place_all<'m>(alloc: Global, stacks: &[Stack<'m>]) -> Result<Placed<'m>, AllocError>
+fn place_all<'m>(
+    stacks: &[Stack<'m>],
+    dependents: &Dependents<'m>,
+    queue: &mut Queue,
+    placed: &mut Placed<'m>,
+) -> Result<(), AllocError>
+    requires apart { AreApart (map stack_view stacks.now) }
+    requires dependents { AreDependents (map stack_view stacks.now) dependents.now }
+    requires queue { IsQueued [] (map stack_view stacks.now) queue.old }
+    requires no_files { placed.old.files.items ≡ [] }
+    requires no_ids { (n : List ℕ) → has_name placed.old.ids n ≡ false }
+    ensures files { OnOk result (map file_view placed.new.files.items ≡ map file_of (in_order (map stack_view stacks.now))) }
+    ensures ids { OnOk result ((n : List ℕ) → has_name placed.new.ids n ≡ is_among n (ids_of (in_order (map stack_view stacks.now)))) }
+{
+    'placing: for _turn in 0..stacks.len() {
+        let Some(number) = queue.next() else {
+            return Ok(());
+        };
+        let stack = stack_at(stacks, number);
+        place(placed, stack)?;
+        queue.release(dependents.of(stack.id))?;
+    }
+    Ok(())
+}
+
+/// The stacks that can be placed, in evaluation order.
+fn placed_of<'m>(alloc: Global, stacks: &[Stack<'m>]) -> Result<Placed<'m>, AllocError>
     requires { AreApart (map stack_view stacks.now) }
     ensures files { IfOk result (λ placed. map file_view placed.files.items ≡ map file_of (in_order (map stack_view stacks.now))) }
     ensures ids { IfOk result (λ placed. (n : List ℕ) → has_name placed.ids n ≡ is_among n (ids_of (in_order (map stack_view stacks.now)))) }
 {
     let dependents = Dependents::of_stacks(alloc, stacks)?;
     let mut queue = Queue::of_stacks(alloc, stacks)?;
-    let mut placed = Placed {
-        files: Vec::new(alloc),
-        ids: NameSet::new(alloc),
-    };
-    'placing: for _turn in 0..stacks.len() {
-        let Some(number) = queue.next() else {
-            return Ok(placed);
-        };
-        let stack = stack_at(stacks, number);
-        place(&mut placed, stack)?;
-        queue.release(dependents.of(stack.id))?;
-    }
+    let mut placed = Placed::new(alloc);
+    place_all(stacks, &dependents, &mut queue, &mut placed)?;
     Ok(placed)
+}
+
+fn order_of<'m>(alloc: Global, stacks: &[Stack<'m>]) -> Result<Order<'m>, AllocError>
+    requires { AreApart (map stack_view stacks.now) }
+    ensures { IfOk result (λ order. (manifest : Data) → map stack_view stacks.now ≡ spec_stacks_of manifest → IsOrder manifest order) }
+{
+    let Placed { files, ids } = placed_of(alloc, stacks)?;
+    match first_cycle(alloc, stacks, &ids)? {
+        Some(id) => Ok(Order::Cycle(id)),
+        None => Ok(Order::Stacks(files)),
+    }
 }
 
 /// The stacks of a manifest in evaluation order: always next that of the least artifact id whose dependencies stand
@@ -86,10 +127,5 @@ pub fn stacks_in_order<'m>(alloc: Global, manifest: &'m Value) -> Result<Order<'
     ensures { IfOk result (λ order. IsOrder (view manifest.now) order) }
 {
     let stacks = stacks_of(alloc, manifest)?;
-    let stacks = stacks.as_slice();
-    let Placed { files, ids } = place_all(alloc, stacks)?;
-    match first_cycle(alloc, stacks, &ids)? {
-        Some(id) => Ok(Order::Cycle(id)),
-        None => Ok(Order::Stacks(files)),
-    }
+    order_of(alloc, stacks.as_slice())
 }

@@ -5,7 +5,7 @@ ghost use Rattle.serde_json.specs.Find.{as_str};
 ghost use Rattle.serde_json.specs.View.{view, members_view};
 ghost use Rattle.cdk_eval.specs.Manifest.{stacks_of as spec_stacks_of, stack_ids as spec_stack_ids, named_in, text_onto, AreApart};
 ghost use Rattle.cdk_eval.specs.Reach.{is_among};
-ghost use Rattle.cdk_artifacts.specs.Found.{texts_of, has_name, is_stack as spec_is_stack, stack_view, stack_by, stack_onto, stacks_by};
+ghost use Rattle.cdk_artifacts.specs.Found.{texts_of, has_name, is_stack as spec_is_stack, stack_view, stack_by, stack_onto, stacks_by as spec_stacks_by};
 
 use crate::artifacts::{artifacts, is_type, property};
 use crate::name_set::NameSet;
@@ -108,16 +108,28 @@ fn push_stack<'m>(
     Ok(())
 }
 
+/// The artifacts that are stacks, by the ids of all stacks.
+fn stacks_by<'m>(
+    alloc: Global,
+    ids: &NameSet<'_>,
+    artifacts: &'m Map,
+) -> Result<Vec<Stack<'m>>, AllocError>
+    ensures stacks { IfOk result (λ ss. map stack_view ss.items ≡ spec_stacks_by (has_name ids.now) (members_view artifacts.now.entries)) }
+    ensures apart { IfOk result (λ ss. AreApart (map stack_view ss.items)) }
+{
+    let mut stacks = Vec::new(alloc);
+    for (id, artifact) in artifacts.iter() {
+        push_stack(alloc, &mut stacks, ids, id.as_str(), artifact)?;
+    }
+    Ok(stacks)
+}
+
 fn stacks_in<'m>(alloc: Global, artifacts: &'m Map) -> Result<Vec<Stack<'m>>, AllocError>
-    ensures stacks { IfOk result (λ ss. map stack_view ss.items ≡ stacks_by (λ n. is_among n (spec_stack_ids (members_view artifacts.now.entries))) (members_view artifacts.now.entries)) }
+    ensures stacks { IfOk result (λ ss. map stack_view ss.items ≡ spec_stacks_by (λ n. is_among n (spec_stack_ids (members_view artifacts.now.entries))) (members_view artifacts.now.entries)) }
     ensures apart { IfOk result (λ ss. AreApart (map stack_view ss.items)) }
 {
     let ids = stack_ids(alloc, artifacts)?;
-    let mut stacks = Vec::new(alloc);
-    for (id, artifact) in artifacts.iter() {
-        push_stack(alloc, &mut stacks, &ids, id.as_str(), artifact)?;
-    }
-    Ok(stacks)
+    stacks_by(alloc, &ids, artifacts)
 }
 
 /// The stacks of the manifest, by artifact id.

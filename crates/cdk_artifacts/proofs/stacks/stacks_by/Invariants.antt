@@ -1,7 +1,7 @@
 use Rattle.std.proofs.Common.{◌≡◌, ◌++◌, map}
 use Rattle.serde_json.specs.View.{members_view}
 use Rattle.cdk_artifacts.specs.Found.{has_name, stack_view, stacks_by}
-use Rattle.cdk_artifacts.proofs.stacks.stacks_in.Given as goal
+use Rattle.cdk_artifacts.proofs.stacks.stacks_by.Given as goal
 
 abbrev pub invariant-loop-id : goal.invariant-loop-id
 invariant-loop-id l =

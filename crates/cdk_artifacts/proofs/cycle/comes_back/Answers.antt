@@ -6,7 +6,7 @@ use mathlib.Core.Path.{fun_ext}
 use Rattle.cdk_artifacts.specs.Found.{has_name, texts_of}
 use Rattle.cdk_artifacts.specs.Ways.{leads_in, Grows}
 use Rattle.cdk_artifacts.proofs.Search.{Searches, begins, steps, finds, ends, one_step, texts_push}
-use Rattle.cdk_artifacts.proofs.cycle.reaches_itself.Goals as goal
+use Rattle.cdk_artifacts.proofs.cycle.comes_back.Goals as goal
 
 pub returns-then-branch : goal.returns-then-branch
 returns-then-branch c ss h =
@@ -21,10 +21,10 @@ search-init c =
     let leads = leads_in c.args.index.now in
     let id = c.args.id.now in
     let pushed = rw c.if-branch.false at c.in_ok-push_dependencies.ensures in
-    let s = has_name c.new-seen.result in
+    let s = has_name c.args.seen.now in
     let t = has_name c.push_dependencies.new.seen in
     let p = texts_of c.push_dependencies.new.open_ids in
-    begins leads id s t p c.new-seen.ensures (subst (λ (o : List (List ℕ)). Grows (leads id) s t o p) (ap texts_of c.new-open.ensures) pushed.0) pushed.1
+    begins leads id s t p c.requires.unseen (subst (λ (o : List (List ℕ)). Grows (leads id) s t o p) (ap texts_of c.requires.none_open) pushed.0) pushed.1
 
 pub returns-in_default : goal.returns-in_default
 returns-in_default c ss h =
