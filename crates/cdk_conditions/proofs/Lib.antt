@@ -1,4 +1,5 @@
 mod Counts
+mod Forms
 mod Groups
 mod Loops
 mod Settled

@@ -1,6 +1,7 @@
 -- Conditions that are kept as loops, one after the other.
-use Rattle.std.proofs.Common.{◌≡◌, ℕ, zero, suc, ◌<◌, List, length, get_or, Bor, [], ◌∷◌, Bool, true, false, cond, Option, Some, refl, sym, subst, ap, ◌∙◌, inl, inr, arith}
+use Rattle.std.proofs.Common.{◌≡◌, ℕ, zero, suc, ◌<◌, List, length, get_or, Bor, [], ◌∷◌, Bool, true, false, cond, Option, Some, None, refl, sym, subst, ap, ◌∙◌, inl, inr, arith}
 use Rattle.std.specs.Prelude.{◌⊎◌, bytes_eq, if◌then◌else◌}
+use Rattle.std.specs.List.{slice_get}
 use Rattle.cdk_eval.specs.Outcomes.{Untold}
 use Rattle.cdk_eval.specs.Reach.{IsIn}
 use Rattle.cdk_eval.specs.Views.{truth_view}
@@ -16,6 +17,14 @@ pub in_at : (ns : List (Bor (List ℕ))) (i : ℕ) (d : Bor (List ℕ)) → i < 
 in_at [] i d h = absurd (omega arith)
 in_at (n ∷ ns) zero d h = inl refl
 in_at (n ∷ ns) (suc i) d h = inr (in_at ns i d (omega arith))
+
+pub first_in : (ns : List (Bor (List ℕ))) (m : Bor (List ℕ)) → Some m ≡ slice_get ns 0 → IsIn m.now (texts_of ns)
+first_in [] m h = cc
+first_in (n ∷ ns) m h = let same : n ≡ m = cc in inl (ap (λ (b : Bor (List ℕ)). b.now) same)
+
+pub first_none : (ns : List (Bor (List ℕ))) → None ≡ slice_get ns 0 → ns ≡ []
+first_none [] h = refl
+first_none (n ∷ ns) h = cc
 
 -- all are kept but the rest
 pub record AreKept (names : List (List ℕ)) (old : List ℕ → Option Kept) (rest : List (List ℕ)) (now : List ℕ → Option Kept) : Type 0 where

@@ -15,6 +15,10 @@ use Rattle.cdk_intrinsics.specs.declared.truths.Truths.{Truths}
 abbrev pub texts_of : List (Bor (List ℕ)) → List (List ℕ)
 texts_of ns = map (λ n. n.now) ns
 
+-- a well-formed form of conditions
+abbrev pub has_parts : List ℕ → Data → Bool
+has_parts k d = if bytes_eq k (codes "Fn::And") || bytes_eq k (codes "Fn::Or") then has_items is_few d else bytes_eq k (codes "Fn::Not") && has_items is_one d
+
 -- the names in the form of a key
 abbrev pub form_names : List ℕ → Data → List (List ℕ)
 form_names k d =
@@ -39,6 +43,10 @@ hold_by false ts = all_hold (λ a b. a || b) false ts
 abbrev pub both_by : Bool → Truth → Truth → Truth
 both_by true t u = both_hold (λ a b. a && b) t u
 both_by false t u = both_hold (λ a b. a || b) t u
+
+-- whether the key is one of `Fn::And` and `Fn::Or`, and which
+abbrev pub junction_of : List ℕ → Option Bool
+junction_of k = if bytes_eq k (codes "Fn::And") then Some true else (if bytes_eq k (codes "Fn::Or") then Some false else None)
 
 -- of the form of a key, with the outcome of an operand and the truth of a name
 abbrev pub form_truth : (Data → Outcome) → (List ℕ → Truth) → List ℕ → Data → Truth

@@ -1,9 +1,9 @@
 // The names that a condition names, directly or inside well-formed `Fn::And`, `Fn::Or` and `Fn::Not`.
-ghost use Rattle.std.specs.Prelude.{◌≡◌, ◌++◌, ℕ, List, OnOk, IfOk, map, option_map};
+ghost use Rattle.std.specs.Prelude.{◌≡◌, ◌++◌, ℕ, List, false, OnOk, IfOk, map, option_map};
 ghost use Rattle.serde_json.specs.Find.{get_member};
 ghost use Rattle.serde_json.specs.View.{view, items_view, members_view};
 ghost use Rattle.cdk_eval.specs.Conditions.{one_name, item_names, part_names, names_in as spec_names_in, has_items, is_few as spec_is_few, is_one as spec_is_one};
-ghost use Rattle.cdk_conditions.specs.Kept.{texts_of, form_names};
+ghost use Rattle.cdk_conditions.specs.Kept.{texts_of, form_names, has_parts as spec_has_parts};
 
 use cdk_base::{Map, Value};
 use std::alloc::{AllocError, Global};
@@ -51,6 +51,27 @@ fn push_one<'a>(names: &mut Vec<&'a str>, value: &'a Value) -> Result<(), AllocE
     }
 }
 
+/// Whether it is a well-formed form of conditions.
+fn has_parts(key: &str, part: &Value) -> bool
+    ensures { result ≡ spec_has_parts key.now (view part.now) }
+{
+    if key == "Fn::And" || key == "Fn::Or" {
+        return has_few(part);
+    }
+    key == "Fn::Not" && has_one(part)
+}
+
+/// The name in a form that isn't one of conditions.
+fn push_own_name<'a>(names: &mut Vec<&'a str>, key: &str, part: &'a Value) -> Result<(), AllocError>
+    requires { spec_has_parts key.now (view part.now) ≡ false }
+    ensures { OnOk result (texts_of names.new.items ≡ texts_of names.old.items ++ form_names key.now (view part.now)) }
+{
+    if key == "Condition" {
+        return push_one(names, part);
+    }
+    Ok(())
+}
+
 #[cycle(names)]
 fn push_names<'a>(names: &mut Vec<&'a str>, value: &'a Value) -> Result<(), AllocError>
     ensures { OnOk result (texts_of names.new.items ≡ texts_of names.old.items ++ spec_names_in (view value.now)) }
@@ -76,22 +97,10 @@ fn push_form_names<'a>(
 ) -> Result<(), AllocError>
     ensures { OnOk result (texts_of names.new.items ≡ texts_of names.old.items ++ form_names key.now (view part.now)) }
 {
-    if key == "Fn::And" || key == "Fn::Or" {
-        if has_few(part) {
-            return push_part_names(names, part);
-        }
-        return Ok(());
+    if has_parts(key, part) {
+        return push_part_names(names, part);
     }
-    if key == "Fn::Not" {
-        if has_one(part) {
-            return push_part_names(names, part);
-        }
-        return Ok(());
-    }
-    if key == "Condition" {
-        return push_one(names, part);
-    }
-    Ok(())
+    push_own_name(names, key, part)
 }
 
 #[cycle(names)]

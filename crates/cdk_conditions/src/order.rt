@@ -33,27 +33,25 @@ fn close<'a>(
     conditions: &Map,
     truths: &mut Truths<'a>,
     walk: &Walk<'a>,
-    group: Group<'a>,
+    group: &Group<'a>,
 ) -> Result<(), AllocError>
     requires sound { IsSound scope.now }
-    requires walk { IsWalkWith (outcome (scope_view scope.now)) (members_view conditions.now.entries) truths.old walk.now group }
-    requires done { group.waiting ≡ [] }
+    requires walk { IsWalkWith (outcome (scope_view scope.now)) (members_view conditions.now.entries) truths.old walk.now group.now }
+    requires done { group.now.waiting ≡ [] }
     ensures walk { OnOk result (IsWalk (outcome (scope_view scope.now)) (members_view conditions.now.entries) truths.new walk.now) }
     ensures kept { OnOk result ((n : List ℕ) → is_kept truths.old n ≡ true → is_kept truths.new n ≡ true) }
 {
+    let members = group.members.as_slice();
     if group.is_loop {
-        keep_loops(truths, group.members.as_slice())?;
-        return Ok(());
+        return keep_loops(truths, members);
     }
-    let mut members = group.members;
-    let Some(name) = members.pop() else {
+    let Some(name) = members.first() else {
         return Ok(());
     };
     let Some(condition) = condition_at(conditions, name) else {
         return Ok(());
     };
-    keep_truth(alloc, scope, truths, name, condition)?;
-    Ok(())
+    keep_truth(alloc, scope, truths, name, condition)
 }
 
 /// Looks at a name that waits in the last group; where none does, keeps the group's conditions.
@@ -71,20 +69,16 @@ fn step<'a>(
     ensures step { OnOk result (IsStep (members_view conditions.now.entries) truths.old walk.old group.entry truths.new walk.new) }
 {
     let Some(name) = group.waiting.pop() else {
-        close(alloc, scope, conditions, truths, walk, group)?;
-        return Ok(());
+        return close(alloc, scope, conditions, truths, walk, &group);
     };
     let Some(condition) = unsettled(conditions, truths, name) else {
-        walk.groups.push(group)?;
-        return Ok(());
+        return walk.groups.push(group);
     };
     if let Some(position) = walk.positions.get(name) {
-        walk.join(group, position)?;
-        return Ok(());
+        return walk.join(group, position);
     }
     walk.groups.push(group)?;
-    walk.enter(alloc, name, condition)?;
-    Ok(())
+    walk.enter(alloc, name, condition)
 }
 
 /// Evaluates a condition, and those that it reaches before it.

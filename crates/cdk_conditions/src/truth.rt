@@ -1,11 +1,11 @@
 // The truth of one condition, under the truths that are kept (CloudFormation's condition functions).
-ghost use Rattle.std.specs.Prelude.{◌≡◌, ◌≢◌, [], ◌∷◌, length, MatchOption, IfOk};
+ghost use Rattle.std.specs.Prelude.{◌≡◌, ◌≢◌, [], ◌∷◌, None, bytes_eq, codes, false, length, MatchOption, IfOk};
 ghost use Rattle.serde_json.specs.View.{view, items_view};
 ghost use Rattle.cdk_eval.specs.Conditions.{truth_of as spec_truth_of, single_truth, part_truths, item_truths, equals_form, equal_outcomes as spec_equal_outcomes, not_form, negated as spec_negated, name_form};
 ghost use Rattle.cdk_eval.specs.Template.{outcome};
 ghost use Rattle.cdk_eval.specs.Views.{truth_view, outcome_view};
 ghost use Rattle.cdk_intrinsics.specs.Scopes.{scope_view, truth_in, IsSound};
-ghost use Rattle.cdk_conditions.specs.Kept.{junction as spec_junction, few_by, form_truth as spec_form_truth};
+ghost use Rattle.cdk_conditions.specs.Kept.{junction as spec_junction, junction_of as spec_junction_of, few_by, form_truth as spec_form_truth};
 
 use crate::names::has_few;
 use cdk_base::Value;
@@ -50,6 +50,19 @@ fn equals_truth(alloc: Global, scope: &Scope<'_, '_>, operands: &Value) -> Resul
 
 // ---- the others
 
+/// Of `Fn::And` and `Fn::Or`, whether all parts have to hold.
+fn junction_of(key: &str) -> Option<bool>
+    ensures { result ≡ spec_junction_of key.now }
+{
+    if key == "Fn::And" {
+        return Some(true);
+    }
+    if key == "Fn::Or" {
+        return Some(false);
+    }
+    None
+}
+
 fn junction(is_all: bool, first: bool, second: bool) -> bool
     ensures { result ≡ spec_junction is_all first second }
 {
@@ -88,6 +101,28 @@ fn name_truth(truths: &Truths<'_>, name: &Value) -> Truth
     }
 }
 
+/// The truth of a form that isn't one of conditions.
+fn own_truth(
+    alloc: Global,
+    scope: &Scope<'_, '_>,
+    truths: &Truths<'_>,
+    key: &str,
+    part: &Value,
+) -> Result<Truth, AllocError>
+    requires sound { IsSound scope.now }
+    requires no_junction { spec_junction_of key.now ≡ None }
+    requires not_negated { bytes_eq key.now (codes "Fn::Not") ≡ false }
+    ensures { IfOk result (λ t. truth_view t ≡ spec_form_truth (outcome (scope_view scope.now)) (truth_in truths.now) key.now (view part.now)) }
+{
+    if key == "Fn::Equals" {
+        return equals_truth(alloc, scope, part);
+    }
+    if key == "Condition" {
+        return Ok(name_truth(truths, part));
+    }
+    Ok(Truth::Untold(EvalFault::BadIntrinsic))
+}
+
 /// The truth of a condition, under the truths of the names in it.
 #[cycle(truth)]
 pub fn truth_of(
@@ -123,22 +158,13 @@ fn form_truth(
     requires { IsSound scope.now }
     ensures { IfOk result (λ t. truth_view t ≡ spec_form_truth (outcome (scope_view scope.now)) (truth_in truths.now) key.now (view part.now)) }
 {
-    if key == "Fn::Equals" {
-        return equals_truth(alloc, scope, part);
-    }
-    if key == "Fn::And" {
-        return few_truth(alloc, scope, truths, true, part);
-    }
-    if key == "Fn::Or" {
-        return few_truth(alloc, scope, truths, false, part);
+    if let Some(is_all) = junction_of(key) {
+        return few_truth(alloc, scope, truths, is_all, part);
     }
     if key == "Fn::Not" {
         return not_truth(alloc, scope, truths, part);
     }
-    if key == "Condition" {
-        return Ok(name_truth(truths, part));
-    }
-    Ok(Truth::Untold(EvalFault::BadIntrinsic))
+    own_truth(alloc, scope, truths, key, part)
 }
 
 /// `Fn::And` and `Fn::Or`: all parts are evaluated from the left.

@@ -1,5 +1,6 @@
 use Rattle.std.proofs.Common.{◌≡◌, ◌+◌, [], ◌∷◌, drop, sym, ap, ◌∙◌, arith}
 use Rattle.std.proofs.lemmas.List.{drop_more, drop_all}
+use Rattle.std.proofs.lemmas.Result.{IfOk-weaker}
 use Rattle.serde_json.specs.View.{view, items_view}
 use Rattle.serde_json.proofs.Views.{view-Array}
 use Rattle.cdk_eval.specs.Conditions.{item_truths, part_truths, not_form, has_items, is_few}
@@ -7,9 +8,27 @@ use Rattle.cdk_eval.specs.Outcomes.{Holds}
 use Rattle.cdk_eval.specs.Template.{outcome}
 use Rattle.cdk_eval.specs.Views.{truth_view}
 use Rattle.cdk_intrinsics.specs.Scopes.{scope_view, truth_in}
-use Rattle.cdk_conditions.specs.Kept.{few_by, hold_by, both_by}
+use Rattle.cdk_conditions.specs.Kept.{few_by, hold_by, both_by, form_truth}
 use Rattle.cdk_conditions.proofs.Counts.{no_few, few_hold, both_end, both_fault, not_other}
+use Rattle.cdk_conditions.proofs.Forms.{truth_of_junction, truth_of_not}
 use Rattle.cdk_conditions.proofs.truth.+truth.Goals as goal
+
+pub form_truth-returns-in-Some : goal.form_truth-returns-in-Some
+form_truth-returns-in-Some t c =
+    let op = outcome (scope_view c.args.scope.now) in
+    let f = truth_in c.args.truths.now in
+    let k = c.args.key.now in
+    let d = view c.args.part.now in
+    let is_all = c.in-Some.is_all in
+    IfOk-weaker c.few_truth.result (λ t. truth_view t ≡ few_by is_all (part_truths op f d)) (λ t. truth_view t ≡ form_truth op f k d) (λ t h. h ∙ sym (truth_of_junction op f k d is_all c.in-Some.ensures)) c.few_truth.ensures
+
+pub form_truth-returns-then-eq : goal.form_truth-returns-then-eq
+form_truth-returns-then-eq t c =
+    let op = outcome (scope_view c.args.scope.now) in
+    let f = truth_in c.args.truths.now in
+    let k = c.args.key.now in
+    let d = view c.args.part.now in
+    IfOk-weaker c.not_truth.result (λ t. truth_view t ≡ not_form (part_truths op f d)) (λ t. truth_view t ≡ form_truth op f k d) (λ t h. h ∙ sym (truth_of_not op f k d (sym c.if-eq.ensures))) c.not_truth.ensures
 
 pub few_truth-returns-then-not-has_few : goal.few_truth-returns-then-not-has_few
 few_truth-returns-then-not-has_few t c = no_few (outcome (scope_view c.args.scope.now)) (truth_in c.args.truths.now) c.args.is_all (view c.args.parts.now) (sym c.if-not-has_few.ensures)
