@@ -1,5 +1,5 @@
 -- Exports and names that are put one after another.
-use Rattle.std.proofs.Common.{◌≡◌, ℕ, List, [], ◌∷◌, ◌++◌, Bool, true, false, cond, Option, Some, None, refl, sym, ap, ◌∙◌}
+use Rattle.std.proofs.Common.{◌≡◌, ℕ, List, [], ◌∷◌, ◌++◌, Bool, true, false, cond, Option, Some, None, refl, sym, ap, ◌∙◌, append_assoc}
 use Rattle.std.specs.Prelude.{◌||◌, bytes_eq}
 use Rattle.std.specs.List.{cons_option}
 use Rattle.std.specs.Option.{option_or}
@@ -15,6 +15,10 @@ way_at a b false true e f = let back : bytes_eq a b ≡ true = (bytes_eq-Decides
 
 pub either_way : (a b : List ℕ) → bytes_eq a b ≡ bytes_eq b a
 either_way a b = way_at a b (bytes_eq a b) (bytes_eq b a) refl refl
+
+-- what is found is moved from the rest to what was found
+pub moved : {X : Type 0} (all was now one whole rest : List X) → all ≡ was ++ whole → whole ≡ one ++ rest → now ≡ was ++ one → all ≡ now ++ rest
+moved all was now one whole rest found split more = found ∙ ap (λ xs. was ++ xs) split ∙ sym (append_assoc was one rest) ∙ ap (λ xs. xs ++ rest) (sym more)
 
 or_step : (o l : Option (List ℕ)) (t : List ℕ) (b : Bool) → option_or o (cond b (Some t) l) ≡ option_or (option_or o (cond b (Some t) None)) l
 or_step None l t true = refl

@@ -1,5 +1,5 @@
 // What the outputs of a stack come to, and the exports that they make.
-ghost use Rattle.std.specs.Prelude.{◌≡◌, ◌++◌, ℕ, List, OnOk, IfOk, map, option_map, option_and_then, codes};
+ghost use Rattle.std.specs.Prelude.{◌≡◌, ◌++◌, ◌∷◌, [], ℕ, List, OnOk, IfOk, map, option_map, option_and_then, codes};
 ghost use Rattle.serde_json.specs.Find.{get};
 ghost use Rattle.serde_json.specs.View.{view, members_view};
 ghost use Rattle.cdk_eval.specs.Stack.{output_value as spec_output_value, export_name as spec_export_name, value_and_name, output_at, output_outcomes, export_entry, export_entries, text_outcome};
@@ -148,6 +148,25 @@ fn push_export(
     exports.push(Export { name, text })
 }
 
+/// Adds what an output comes to, and its export.
+fn add_output(
+    alloc: Global,
+    scope: &Scope<'_, '_>,
+    truths: &Truths<'_>,
+    made: &mut Outputs,
+    logical: &str,
+    output: &Value,
+) -> Result<(), AllocError>
+    requires { IsSound scope.now }
+    ensures outputs { OnOk result (map output_entry made.new.outputs ≡ map output_entry made.old.outputs ++ (logical.now, output_at (presence_of truths.now (view output.now)) (scope_view scope.now) (view output.now)) ∷ []) }
+    ensures exports { OnOk result ((xs : List (List ℕ × List ℕ)) → map export_pair made.new.exports ++ xs ≡ map export_pair made.old.exports ++ export_entry (output_at (presence_of truths.now (view output.now)) (scope_view scope.now) (view output.now)) (spec_export_name (scope_view scope.now) (view output.now)) xs) }
+{
+    let logical = Text::new(alloc, logical)?;
+    let Evaluated { outcome, export } = output_of(alloc, scope, truths, output)?;
+    push_export(alloc, &mut made.exports, &outcome, export)?;
+    made.outputs.push(OutputOut { logical, outcome })
+}
+
 /// The outputs of a section by the bytes of their logical names, and their exports in that order.
 pub fn outputs_in(
     alloc: Global,
@@ -159,13 +178,12 @@ pub fn outputs_in(
     ensures outputs { IfOk result (λ r. map output_entry r.outputs ≡ output_outcomes (presence_of truths.now) (scope_view scope.now) (members_view members.now.entries)) }
     ensures exports { IfOk result (λ r. map export_pair r.exports ≡ export_entries (presence_of truths.now) (scope_view scope.now) (members_view members.now.entries)) }
 {
-    let mut outputs = List::new(alloc);
-    let mut exports = List::new(alloc);
+    let mut made = Outputs {
+        outputs: List::new(alloc),
+        exports: List::new(alloc),
+    };
     for (logical, output) in members.iter() {
-        let Evaluated { outcome, export } = output_of(alloc, scope, truths, output)?;
-        push_export(alloc, &mut exports, &outcome, export)?;
-        let logical = Text::new(alloc, logical.as_str())?;
-        outputs.push(OutputOut { logical, outcome })?;
+        add_output(alloc, scope, truths, &mut made, logical.as_str(), output)?;
     }
-    Ok(Outputs { outputs, exports })
+    Ok(made)
 }

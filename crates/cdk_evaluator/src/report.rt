@@ -39,8 +39,8 @@ pub fn eval<'x>(
     let mut stacks = List::new(alloc);
     for stack in assembly.stacks() {
         let Evaluation { out, exports: made } = stack_of(alloc, values, &exports, stack)?;
-        add_all(alloc, &mut exports, made.as_slice())?;
         stacks.push(out)?;
+        add_all(alloc, &mut exports, made.as_slice())?;
     }
     Ok(Report { stacks })
 }

@@ -32,8 +32,8 @@ fn properties_in(
 {
     let mut properties = List::new(alloc);
     for (key, member) in members.iter() {
-        let outcome = outcome_of(alloc, scope, member)?;
         let key = Text::new(alloc, key.as_str())?;
+        let outcome = outcome_of(alloc, scope, member)?;
         properties.push(PropertyOut { key, outcome })?;
     }
     Ok(properties)

@@ -65,16 +65,15 @@ fn stack_under<'x, 'e>(
     ensures out { IfOk result (λ r. stack_out_view r.out ≡ stack_outcome (values_view values.now) (exports_view exports.now) (stack_view stack.now)) }
     ensures exports { IfOk result (λ r. map export_pair r.exports ≡ stack_exports (values_view values.now) (exports_view exports.now) (stack_view stack.now)) }
 {
-    let name = stack.name.as_str();
+    let name = Text::new(alloc, stack.name.as_str())?;
     let scope = Scope {
         values,
-        stack: name,
+        stack: stack.name.as_str(),
         template: &stack.template,
         place: Place::Body { truths, exports },
     };
     let resources = resources_of(alloc, &scope, truths)?;
     let Outputs { outputs, exports } = outputs_of(alloc, &scope, truths)?;
-    let name = Text::new(alloc, name)?;
     let out = StackOut {
         name,
         resources,

@@ -8,5 +8,5 @@ use Rattle.cdk_evaluator.proofs.outputs.outputs_in.Given as goal
 
 abbrev pub invariant-loop-logical : goal.invariant-loop-logical
 invariant-loop-logical l =
-    (output_outcomes (presence_of l.truths) (scope_view l.scope) (members_view l.members.entries) ≡ map output_entry l.outputs ++ output_outcomes (presence_of l.truths) (scope_view l.scope) (members_view l.logical-iterator))
-    × (export_entries (presence_of l.truths) (scope_view l.scope) (members_view l.members.entries) ≡ map export_pair l.exports ++ export_entries (presence_of l.truths) (scope_view l.scope) (members_view l.logical-iterator))
+    (output_outcomes (presence_of l.truths) (scope_view l.scope) (members_view l.members.entries) ≡ map output_entry l.made.outputs ++ output_outcomes (presence_of l.truths) (scope_view l.scope) (members_view l.logical-iterator))
+    × (export_entries (presence_of l.truths) (scope_view l.scope) (members_view l.members.entries) ≡ map export_pair l.made.exports ++ export_entries (presence_of l.truths) (scope_view l.scope) (members_view l.logical-iterator))
