@@ -1,4 +1,5 @@
 pub mod Examples
+pub mod FormsLaid
 pub mod KeepingLoop
 pub mod Laying
 pub mod LoopMeasure

@@ -89,6 +89,18 @@ fn keep_same(
     Ok(())
 }
 
+/// Lets a lazy wait, and behind it those that it waits for.
+fn wait_behind(
+    waiting: &mut Vec<NodeId>,
+    lazy: NodeId,
+    missing: &[NodeId],
+) -> Result<(), AllocError>
+    ensures { OnOk result (waiting.new.items ≡ waiting.old.items ++ lazy ∷ missing.now) }
+{
+    waiting.push(lazy)?;
+    waiting.extend_from_slice(missing)
+}
+
 /// Keeps the JSON of a lazy with this value, or lets what it mentions and isn't kept wait.
 fn keep_value(
     scope: &Scope<'_>,
@@ -103,11 +115,12 @@ fn keep_value(
 {
     let mut missing = Vec::new(scope.alloc);
     let json = value_json(scope, kept, value, &mut missing)?;
+    let missing = missing.as_slice();
     if missing.is_empty() {
         return kept.put(lazy, json);
     }
-    waiting.push(lazy)?;
-    waiting.extend_from_slice(missing.as_slice())
+    drop(json);
+    wait_behind(waiting, lazy, missing)
 }
 
 /// Keeps a lazy, or lets what it mentions and isn't kept wait. One without a value counts as an empty text.
@@ -166,6 +179,7 @@ pub fn resolved(scope: &Scope<'_>, kept: &mut Results, value: &Value) -> Result<
         if waiting.as_slice().is_empty() {
             return Ok(json);
         }
+        drop(json);
         // The next turn finds all of it kept.
         keep_all(scope, kept, &mut waiting)?;
     }

@@ -10,6 +10,7 @@ ghost use Rattle.cdk_markers.specs.Key.{text_marker as marker_in};
 ghost use Rattle.cdk_markers.specs.Left.{piece_view};
 ghost use Rattle.cdk_markers.specs.ListKey.{list_key_of};
 ghost use Rattle.cdk_plain.specs.Plain.{pseudo_name as spec_pseudo_name};
+ghost use Rattle.cdk_plain.specs.Rendered.{one, ref_json};
 ghost use Rattle.cdk_resolve.specs.Keeping.{shown};
 ghost use Rattle.cdk_resolve.specs.Kept.{results_in};
 ghost use Rattle.cdk_resolve.specs.Missing.{form_missing, items_missing, lazy_missing, members_missing, piece_missing, pieces_missing, value_missing};
@@ -59,6 +60,18 @@ fn marker_value(scope: &Scope<'_>, key: &str) -> Result<Value, AllocError>
     text_value(scope, marker.as_str())
 }
 
+fn pseudo_value(scope: &Scope<'_>, pseudo: Pseudo) -> Result<Value, AllocError>
+    ensures { IfOk result (λ v. view v ≡ one (codes "Ref") (string (spec_pseudo_name (pseudo_of pseudo)))) }
+{
+    reference_to(scope.alloc, pseudo_name(pseudo))
+}
+
+fn reference_value(scope: &Scope<'_>, at: NodeId) -> Result<Value, AllocError>
+    ensures { IfOk result (λ v. view v ≡ ref_json ((scope_view scope.now).homes.target at)) }
+{
+    reference(scope.alloc, scope.homes, scope.consumer, at)
+}
+
 // A number that isn't whole is refused before, and stands for an empty text here. One that isn't within 64 bits has no place in a
 // `Value`, and ends like want of memory: no document has one.
 fn number_value(scope: &Scope<'_>, number: &Number) -> Result<Value, AllocError>
@@ -84,7 +97,7 @@ fn lazy_json(
     ensures missing { OnOk result (missing.new.items ≡ missing.old.items ++ lazy_missing (results_in kept.now lazy) lazy) }
 {
     match kept.get(lazy) {
-        Some(value) => Ok(value.clone()?),
+        Some(value) => value.clone(),
         None => {
             missing.push(lazy)?;
             text_value(scope, "")
@@ -129,8 +142,8 @@ fn form_json(
         ..
     } = *scope;
     match form {
-        Form::Pseudo(pseudo) => reference_to(alloc, pseudo_name(*pseudo)),
-        Form::Ref(at) => reference(alloc, homes, consumer, *at),
+        Form::Pseudo(pseudo) => pseudo_value(scope, *pseudo),
+        Form::Ref(at) => reference_value(scope, *at),
         Form::GetAtt(at, named) => attribute(alloc, homes, consumer, *at, named.as_str()),
         Form::Join(delimiter, list) => {
             let list = json_below(scope, kept, below, list, missing)?;

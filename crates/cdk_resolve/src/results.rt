@@ -65,7 +65,7 @@ impl Results {
         ensures ok { OnOk result ((n : ℕ) → results_in self.new n ≡ (if n == lazy then Some (view value) else results_in self.old n)) }
         ensures err { OnErr result ((n : ℕ) → results_in self.new n ≡ results_in self.old n) }
     {
-        self.slots.insert(lazy.number(), Slot::Own(value))?;
+        drop(self.slots.insert(lazy.number(), Slot::Own(value))?);
         Ok(())
     }
 
@@ -87,7 +87,7 @@ impl Results {
         ensures err { OnErr result ((n : ℕ) → results_in self.new n ≡ results_in self.old n) }
     {
         let root = self.root(other);
-        self.slots.insert(lazy.number(), Slot::Same(root))?;
+        drop(self.slots.insert(lazy.number(), Slot::Same(root))?);
         Ok(())
     }
 }

@@ -1,16 +1,17 @@
-use Rattle.std.proofs.Common.{◌≡◌, ◌+◌, [], ◌∷◌, drop, length, rules, sym, ap, ◌∙◌, length-append, arith}
+use Rattle.std.proofs.Common.{◌≡◌, ◌+◌, List, [], ◌∷◌, codes, drop, length, rules, sym, ap, ◌∙◌, length-append, arith}
 use Rattle.std.proofs.lemmas.List.{drop_all, drop_more}
+use Rattle.serde_json.specs.Data.{array}
 use Rattle.serde_json.specs.View.{items_view}
 use Rattle.cdk_expansion.specs.Conditions.{condition_plain, conditions_plain, operand_plain}
 use Rattle.cdk_language.specs.Condition as condition
 use Rattle.cdk_language.specs.Condition.{conditions_view, view as condition_view}
 use Rattle.cdk_language.specs.Expression.{view}
-use Rattle.cdk_language.specs.declared.condition.Cond.{Equals, the_lemmas}
+use Rattle.cdk_language.specs.declared.condition.Cond.{And, Cond, Equals, Or, the_lemmas}
 use Rattle.cdk_language.specs.declared.expression.Expr.{Expr}
-use Rattle.cdk_plain.specs.Rendered.{and_items, rendered_condition, rendered_conditions}
+use Rattle.cdk_plain.specs.Rendered.{and_items, one, rendered_condition, rendered_conditions}
 use Rattle.cdk_resolve.proofs.MoreKept.{stays_further}
 use Rattle.cdk_resolve.proofs.OnlyLazy.{if_ok}
-use Rattle.cdk_resolve.proofs.PartsLaid.{none_more, part_laid}
+use Rattle.cdk_resolve.proofs.PartsLaid.{condition_counted, condition_laid, none_more, part_laid}
 use Rattle.cdk_resolve.specs.Kept.{results_in}
 use Rattle.cdk_resolve.specs.Views.{scope_view}
 use Rattle.cdk_tokens.specs.Whole.{operands_of, operands_of_all}
@@ -20,6 +21,12 @@ use Rattle.cdk_resolve.proofs.conditions.+conditions.Goals as goal
 view-Equals : (x y : Expr) → condition_view (Equals x y) ≡ condition.equals (view x) (view y)
 view-Equals x y = search (rules, the_lemmas)
 
+view-And : (cs : List Cond) → condition_view (And cs) ≡ condition.all_of (conditions_view cs)
+view-And cs = search (rules, the_lemmas)
+
+view-Or : (cs : List Cond) → condition_view (Or cs) ≡ condition.any_of (conditions_view cs)
+view-Or cs = search (rules, the_lemmas)
+
 pub part_json-returns-in-Equals-clause-value : goal.part_json-returns-in-Equals-clause-value
 part_json-returns-in-Equals-clause-value t c =
     let s = scope_view c.args.scope.now in
@@ -27,6 +34,32 @@ part_json-returns-in-Equals-clause-value t c =
     if_ok c.equals_json.result
     (λ v h k enough. h k enough ∙ ap (λ d. rendered_condition s.homes (condition_plain (constructs c.args.tree.now) (operand_plain k s.tokens s.bodies c.args.at) c.args.next.now d)) (sym is))
     c.equals_json.ensures.value
+
+pub part_json-returns-in_ok-parts-in-And-clause-value : goal.part_json-returns-in_ok-parts-in-And-clause-value
+part_json-returns-in_ok-parts-in-And-clause-value t c =
+    let s = scope_view c.args.scope.now in
+    condition_laid s.homes (constructs c.args.tree.now) (λ k. operand_plain k s.tokens s.bodies c.args.at) c.args.next.now (length s.order) c.all_of.result
+    (one (codes "Fn::And") (array (items_view c.in_ok-parts-in-And.parts.items)))
+    (condition_view c.args.part.now) _ (ap condition_view c.in-And.is ∙ view-And c.in-And.parts)
+    (λ k enough. ap (λ ds. one (codes "Fn::And") (array ds)) (c.in_ok-parts-in-And.ensures.value k enough))
+    c.all_of.ensures
+
+pub part_json-returns-in_ok-parts-in-And-clause-counted : goal.part_json-returns-in_ok-parts-in-And-clause-counted
+part_json-returns-in_ok-parts-in-And-clause-counted t c =
+    condition_counted c.all_of.result c.args.next.now c.parts_json.new.next (condition_view c.args.part.now) _ (ap condition_view c.in-And.is ∙ view-And c.in-And.parts) c.in_ok-parts-in-And.ensures.counted
+
+pub part_json-returns-in_ok-parts-in-Or-clause-value : goal.part_json-returns-in_ok-parts-in-Or-clause-value
+part_json-returns-in_ok-parts-in-Or-clause-value t c =
+    let s = scope_view c.args.scope.now in
+    condition_laid s.homes (constructs c.args.tree.now) (λ k. operand_plain k s.tokens s.bodies c.args.at) c.args.next.now (length s.order) c.any_of.result
+    (one (codes "Fn::Or") (array (items_view c.in_ok-parts-in-Or.parts.items)))
+    (condition_view c.args.part.now) _ (ap condition_view c.in-Or.is ∙ view-Or c.in-Or.parts)
+    (λ k enough. ap (λ ds. one (codes "Fn::Or") (array ds)) (c.in_ok-parts-in-Or.ensures.value k enough))
+    c.any_of.ensures
+
+pub part_json-returns-in_ok-parts-in-Or-clause-counted : goal.part_json-returns-in_ok-parts-in-Or-clause-counted
+part_json-returns-in_ok-parts-in-Or-clause-counted t c =
+    condition_counted c.any_of.result c.args.next.now c.parts_json-in-Or.new.next (condition_view c.args.part.now) _ (ap condition_view c.in-Or.is ∙ view-Or c.in-Or.parts) c.in_ok-parts-in-Or.ensures.counted
 
 pub parts_json-returns-in_err-value-clause-stays : goal.parts_json-returns-in_err-value-clause-stays
 parts_json-returns-in_err-value-clause-stays t c = stays_further (results_in c.args.kept.now) (results_in c.loop-part.kept) (results_in c.part_json.new.kept) c.loop-part.invariant.stays c.part_json.ensures.stays

@@ -1,6 +1,6 @@
 use Rattle.std.proofs.Common.{◌==◌, length, sym, ap, ◌∙◌}
 use Rattle.serde_json.specs.View.{view}
-use Rattle.cdk_resolve.proofs.MoreKept.{all_stand, fewer_left, nil_of, not_nil_of, nothing_missing}
+use Rattle.cdk_resolve.proofs.MoreKept.{all_stand, fewer_left, nil_of, not_nil_of, nothing_missing, stays_further}
 use Rattle.cdk_resolve.proofs.Settled.{keeps_reached, rendered_right}
 use Rattle.cdk_resolve.specs.Kept.{results_in}
 use Rattle.cdk_resolve.specs.Views.{scope_view}
@@ -27,3 +27,12 @@ loop-waiting-smaller c =
     let some = not_nil_of c.value_json.new.missing.items (ap (λ ns. length ns == 0) (sym c.as_slice.ensures.value) ∙ (sym c.is_empty.ensures ∙ c.if-is_empty.false)) in
     fewer_left (scope_view c.args.scope.now) c.requires.ready (results_in c.loop-waiting.kept) (results_in c.keep_all.new.kept) (view c.args.value.now) c.new-waiting.result.items c.value_json.new.missing.items c.new-waiting.ensures.items
     c.in_ok-json.ensures.missing some c.in_ok-keep_all.ensures.stays c.in_ok-keep_all.ensures.all
+
+pub loop-waiting-preserved : goal.loop-waiting-preserved
+loop-waiting-preserved c = record {
+  stays = stays_further (results_in c.args.kept.now) (results_in c.loop-waiting.kept) (results_in c.keep_all.new.kept) c.loop-waiting.invariant.stays c.keep_all.ensures.stays;
+  settled = c.keep_all.ensures.settled;
+}
+
+pub returns-in_err-keep_all-clause-stays : goal.returns-in_err-keep_all-clause-stays
+returns-in_err-keep_all-clause-stays c = stays_further (results_in c.args.kept.now) (results_in c.loop-waiting.kept) (results_in c.keep_all.new.kept) c.loop-waiting.invariant.stays c.keep_all.ensures.stays
