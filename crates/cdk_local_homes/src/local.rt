@@ -75,7 +75,8 @@ fn put_element(
     requires before { HasElementsBelow (entries_in homes.old) (constructs tree.now) stack at }
     ensures { OnOk result (HasElementsBelow (entries_in homes.new) (constructs tree.now) stack (at + 1)) }
 {
-    if !is_element(&tree.node(at).kind) {
+    let node = tree.node(at);
+    if !is_element(&node.kind) {
         return Ok(());
     }
     let target = Target {

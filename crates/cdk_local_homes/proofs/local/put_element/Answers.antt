@@ -11,5 +11,5 @@ pub returns : goal.returns
 returns c =
     let cs = constructs c.args.tree.now in
     let at = c.args.at in
-    let is : is_element (construct_at cs at).body ≡ true = sym (c.if-not-is_element.ensures ∙ ap is_element c.node.ensures.body) in
+    let is : is_element (construct_at cs at).body ≡ true = sym (c.if-not-is_element.ensures ∙ ap is_element c.node-node.ensures.body) in
     on_ok_weaker c.put_once.result (λ puts. element_put cs c.args.stack at (entries_in c.args.homes.now) (entries_in c.put_once.new.homes) c.logical_name.result.now (c.logical_name.ensures cs c.requires.names) is c.requires.before puts) c.put_once.ensures
