@@ -53,3 +53,7 @@ module _ (cs : List Placed) (s : Spelling) (stack : ℕ) (kind : Body → Bool) 
   -- the construct of a number before the others
   pub filled_more : (n : ℕ) (ns : List ℕ) (ms : Members) → put_in (n ∷ ns) ms ≡ put_in ns (with_entry cs s stack kind n ms)
   filled_more n ns ms = put_first (is_in stack (construct_at cs n).stack && kind (construct_at cs n).body) n (among cs stack kind ns) ms
+
+  -- that of a construct which the section holds
+  pub own_entry : (n : ℕ) (ms : Members) → is_in stack (construct_at cs n).stack ≡ true → kind (construct_at cs n).body ≡ true → put (s.logical n) (entry_of s n (construct_at cs n)) ms ≡ with_entry cs s stack kind n ms
+  own_entry n ms inside held = ap (λ t. cond t (put (s.logical n) (entry_of s n (construct_at cs n)) ms) ms) (sym (ap (λ t. t && kind (construct_at cs n).body) inside ∙ held))

@@ -33,52 +33,62 @@ past_given k l (Some e) d ms h = ap (λ o. match_ordering o (member k d (member 
 
 -- ---- entries
 
-pub parameter_members : (d e : Option Data) (t : Data)
+parameter_members : (d e : Option Data) (t : Data)
     → put_given (codes "Default") d (put_given (codes "Description") e (put (codes "Type") t no_members)) ≡ if_given (codes "Default") d (if_given (codes "Description") e (member (codes "Type") t no_members))
 parameter_members None None t = refl
 parameter_members None (Some e) t = refl
 parameter_members (Some d) None t = refl
 parameter_members (Some d) (Some e) t = refl
 
-pub resource_members : (c d u : Option Data) (m t : Data)
-    → put_given (codes "Condition") c (put_given (codes "DeletionPolicy") d (put (codes "Metadata") m (put (codes "Type") t (put_given (codes "UpdateReplacePolicy") u no_members))))
-    ≡ if_given (codes "Condition") c (if_given (codes "DeletionPolicy") d (member (codes "Metadata") m (member (codes "Type") t (if_given (codes "UpdateReplacePolicy") u no_members))))
-resource_members None None None m t = refl
-resource_members None None (Some u) m t = refl
-resource_members None (Some d) None m t = refl
-resource_members None (Some d) (Some u) m t = refl
-resource_members (Some c) None None m t = refl
-resource_members (Some c) None (Some u) m t = refl
-resource_members (Some c) (Some d) None m t = refl
-resource_members (Some c) (Some d) (Some u) m t = refl
+pub parameter_put : (d e : Option Data) (t : Data) {m₁ m₂ m₃ : Members} → m₁ ≡ put (codes "Type") t no_members → m₂ ≡ put_given (codes "Description") e m₁ → m₃ ≡ put_given (codes "Default") d m₂
+    → m₃ ≡ if_given (codes "Default") d (if_given (codes "Description") e (member (codes "Type") t no_members))
+parameter_put d e t e₁ e₂ e₃ = e₃ ∙ ap (put_given (codes "Default") d) (e₂ ∙ ap (put_given (codes "Description") e) e₁) ∙ parameter_members d e t
 
-pub with_properties : (c d p : Option Data) (m t : Data) (ms : Members)
-    → put_given (codes "Properties") p (if_given (codes "Condition") c (if_given (codes "DeletionPolicy") d (member (codes "Metadata") m (member (codes "Type") t ms))))
-    ≡ if_given (codes "Condition") c (if_given (codes "DeletionPolicy") d (member (codes "Metadata") m (if_given (codes "Properties") p (member (codes "Type") t ms))))
-with_properties c d None m t ms = refl
-with_properties None None (Some p) m t ms = refl
-with_properties None (Some d) (Some p) m t ms = refl
-with_properties (Some c) None (Some p) m t ms = refl
-with_properties (Some c) (Some d) (Some p) m t ms = refl
+-- the properties first, then the others from the last one to the first
+resource_members : (c d p u : Option Data) (m t : Data)
+    → put_given (codes "Condition") c (put_given (codes "DeletionPolicy") d (put (codes "Metadata") m (put (codes "Type") t (put_given (codes "UpdateReplacePolicy") u (put_given (codes "Properties") p no_members)))))
+    ≡ if_given (codes "Condition") c (if_given (codes "DeletionPolicy") d (member (codes "Metadata") m (if_given (codes "Properties") p (member (codes "Type") t (if_given (codes "UpdateReplacePolicy") u no_members)))))
+resource_members None None None None m t = refl
+resource_members None None None (Some u) m t = refl
+resource_members None None (Some p) None m t = refl
+resource_members None None (Some p) (Some u) m t = refl
+resource_members None (Some d) None None m t = refl
+resource_members None (Some d) None (Some u) m t = refl
+resource_members None (Some d) (Some p) None m t = refl
+resource_members None (Some d) (Some p) (Some u) m t = refl
+resource_members (Some c) None None None m t = refl
+resource_members (Some c) None None (Some u) m t = refl
+resource_members (Some c) None (Some p) None m t = refl
+resource_members (Some c) None (Some p) (Some u) m t = refl
+resource_members (Some c) (Some d) None None m t = refl
+resource_members (Some c) (Some d) None (Some u) m t = refl
+resource_members (Some c) (Some d) (Some p) None m t = refl
+resource_members (Some c) (Some d) (Some p) (Some u) m t = refl
 
-pub output_members : (c d e : Option Data)
-    → put_given (codes "Condition") c (put_given (codes "Description") d (put_given (codes "Export") e no_members)) ≡ if_given (codes "Condition") c (if_given (codes "Description") d (if_given (codes "Export") e no_members))
-output_members None None None = refl
-output_members None None (Some e) = refl
-output_members None (Some d) None = refl
-output_members None (Some d) (Some e) = refl
-output_members (Some c) None None = refl
-output_members (Some c) None (Some e) = refl
-output_members (Some c) (Some d) None = refl
-output_members (Some c) (Some d) (Some e) = refl
+pub resource_put : (c d p u : Option Data) (m t : Data) {m₁ m₂ m₃ m₄ m₅ m₆ : Members} → m₁ ≡ put_given (codes "Properties") p no_members → m₂ ≡ put_given (codes "UpdateReplacePolicy") u m₁ → m₃ ≡ put (codes "Type") t m₂
+    → m₄ ≡ put (codes "Metadata") m m₃ → m₅ ≡ put_given (codes "DeletionPolicy") d m₄ → m₆ ≡ put_given (codes "Condition") c m₅
+    → m₆ ≡ if_given (codes "Condition") c (if_given (codes "DeletionPolicy") d (member (codes "Metadata") m (if_given (codes "Properties") p (member (codes "Type") t (if_given (codes "UpdateReplacePolicy") u no_members)))))
+resource_put c d p u m t e₁ e₂ e₃ e₄ e₅ e₆ =
+    e₆ ∙ ap (put_given (codes "Condition") c) (e₅ ∙ ap (put_given (codes "DeletionPolicy") d) (e₄ ∙ ap (put (codes "Metadata") m) (e₃ ∙ ap (put (codes "Type") t) (e₂ ∙ ap (put_given (codes "UpdateReplacePolicy") u) e₁))))
+    ∙ resource_members c d p u m t
 
-pub with_value : (c d e : Option Data) (v : Data)
-    → put (codes "Value") v (if_given (codes "Condition") c (if_given (codes "Description") d (if_given (codes "Export") e no_members)))
+-- the value first, then the others from the last one to the first
+output_members : (c d e : Option Data) (v : Data)
+    → put_given (codes "Condition") c (put_given (codes "Description") d (put_given (codes "Export") e (put (codes "Value") v no_members)))
     ≡ if_given (codes "Condition") c (if_given (codes "Description") d (if_given (codes "Export") e (member (codes "Value") v no_members)))
-with_value c d e v =
-    past_given (codes "Value") (codes "Condition") c v _ refl
-    ∙ ap (if_given (codes "Condition") c) (past_given (codes "Value") (codes "Description") d v _ refl
-    ∙ ap (if_given (codes "Description") d) (past_given (codes "Value") (codes "Export") e v no_members refl))
+output_members None None None v = refl
+output_members None None (Some e) v = refl
+output_members None (Some d) None v = refl
+output_members None (Some d) (Some e) v = refl
+output_members (Some c) None None v = refl
+output_members (Some c) None (Some e) v = refl
+output_members (Some c) (Some d) None v = refl
+output_members (Some c) (Some d) (Some e) v = refl
+
+pub output_put : (c d e : Option Data) (v : Data) {m₁ m₂ m₃ m₄ : Members} → m₁ ≡ put (codes "Value") v no_members → m₂ ≡ put_given (codes "Export") e m₁ → m₃ ≡ put_given (codes "Description") d m₂ → m₄ ≡ put_given (codes "Condition") c m₃
+    → m₄ ≡ if_given (codes "Condition") c (if_given (codes "Description") d (if_given (codes "Export") e (member (codes "Value") v no_members)))
+output_put c d e v e₁ e₂ e₃ e₄ =
+    e₄ ∙ ap (put_given (codes "Condition") c) (e₃ ∙ ap (put_given (codes "Description") d) (e₂ ∙ ap (put_given (codes "Export") e) e₁)) ∙ output_members c d e v
 
 -- ---- sections
 
@@ -140,3 +150,9 @@ module _ (c d m o p r : Option Data) where
   sections_are =
       ap (put_given (codes "Conditions") c) (ap (put_given (codes "Description") d) (ap (put_given (codes "Mappings") m) (ap (put_given (codes "Outputs") o) (ap (put_given (codes "Parameters") p) put_resources
       ∙ put_parameters) ∙ put_outputs) ∙ put_mappings) ∙ put_description) ∙ put_conditions
+
+pub sections_put : (c d m o p r : Option Data) {m₁ m₂ m₃ m₄ m₅ m₆ : Members} → m₁ ≡ put_given (codes "Resources") r no_members → m₂ ≡ put_given (codes "Parameters") p m₁ → m₃ ≡ put_given (codes "Outputs") o m₂
+    → m₄ ≡ put_given (codes "Mappings") m m₃ → m₅ ≡ put_given (codes "Description") d m₄ → m₆ ≡ put_given (codes "Conditions") c m₅ → m₆ ≡ conditions_in c d m o p r
+sections_put c d m o p r e₁ e₂ e₃ e₄ e₅ e₆ =
+    e₆ ∙ ap (put_given (codes "Conditions") c) (e₅ ∙ ap (put_given (codes "Description") d) (e₄ ∙ ap (put_given (codes "Mappings") m) (e₃ ∙ ap (put_given (codes "Outputs") o) (e₂ ∙ ap (put_given (codes "Parameters") p) e₁))))
+    ∙ sections_are c d m o p r

@@ -1,6 +1,6 @@
 // Members of objects, most of which are there only where they are given.
-ghost use Rattle.std.specs.Prelude.{◌≡◌, Some, OnOk, option_map};
-ghost use Rattle.serde_json.specs.Data.{string, put as spec_put};
+ghost use Rattle.std.specs.Prelude.{◌≡◌, Some, IfOk, OnOk, option_map};
+ghost use Rattle.serde_json.specs.Data.{object, string, member, no_members, put as spec_put};
 ghost use Rattle.serde_json.specs.View.{view, members_view};
 ghost use Rattle.cdk_template.specs.Entries.{put_given as spec_put_given};
 ghost use Rattle.cdk_template.specs.Template.{members_of, non_empty, policy_name as spec_policy_name, unless_empty};
@@ -51,6 +51,28 @@ pub(crate) fn put_text_unless_empty(
         return Ok(());
     }
     put_text(members, alloc, key, text)
+}
+
+fn object_of_text(alloc: Global, key: &str, text: &str) -> Result<Value, AllocError>
+    ensures { IfOk result (λ v. view v ≡ object (member key.now (string text.now) no_members)) }
+{
+    let mut members = Map::new(alloc);
+    put_text(&mut members, alloc, key, text)?;
+    Ok(Value::Object(members))
+}
+
+/// Puts an object in whose one member is a text.
+pub(crate) fn put_object_of_text(
+    members: &mut Map,
+    alloc: Global,
+    key: &str,
+    name: &str,
+    text: &str,
+) -> Result<(), AllocError>
+    ensures { OnOk result (members_view members.new.entries ≡ spec_put key.now (object (member name.now (string text.now) no_members)) (members_view members.old.entries)) }
+{
+    let object = object_of_text(alloc, name, text)?;
+    put(members, alloc, key, object)
 }
 
 /// Puts an object of these members in, where there are any.

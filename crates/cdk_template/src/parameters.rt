@@ -1,6 +1,7 @@
 // What stands in a template for a parameter.
-ghost use Rattle.std.specs.Prelude.{◌≡◌, IfOk};
-ghost use Rattle.serde_json.specs.View.{view};
+ghost use Rattle.std.specs.Prelude.{◌≡◌, IfOk, OnOk};
+ghost use Rattle.serde_json.specs.Data.{no_members, object};
+ghost use Rattle.serde_json.specs.View.{members_view, view};
 ghost use Rattle.cdk_language.specs.Construct.{parameter_view};
 ghost use Rattle.cdk_template.specs.Template.{form_name as spec_form_name, parameter_entry as spec_parameter_entry};
 
@@ -19,13 +20,21 @@ fn form_name(form: ParameterForm) -> &'static str
     }
 }
 
+/// Puts the members of a parameter's entry in.
+fn put_parameter(entry: &mut Map, alloc: Global, parameter: &Parameter) -> Result<(), AllocError>
+    requires empty { members_view entry.old.entries ≡ no_members }
+    ensures { OnOk result (object (members_view entry.new.entries) ≡ spec_parameter_entry (parameter_view parameter.now)) }
+{
+    put_text(entry, alloc, "Type", form_name(parameter.form))?;
+    put_text_given(entry, alloc, "Description", &parameter.description)?;
+    put_text_given(entry, alloc, "Default", &parameter.default)
+}
+
 /// The entry of a parameter.
 pub(crate) fn parameter_entry(alloc: Global, parameter: &Parameter) -> Result<Value, AllocError>
     ensures { IfOk result (λ v. view v ≡ spec_parameter_entry (parameter_view parameter.now)) }
 {
     let mut entry = Map::new(alloc);
-    put_text(&mut entry, alloc, "Type", form_name(parameter.form))?;
-    put_text_given(&mut entry, alloc, "Description", &parameter.description)?;
-    put_text_given(&mut entry, alloc, "Default", &parameter.default)?;
+    put_parameter(&mut entry, alloc, parameter)?;
     Ok(Value::Object(entry))
 }

@@ -1,15 +1,15 @@
 // What stands in a template for a resource.
-ghost use Rattle.std.specs.Prelude.{◌≡◌, ◌<◌, codes, length, IfOk, OnOk};
-ghost use Rattle.serde_json.specs.Data.{put as spec_put};
+ghost use Rattle.std.specs.Prelude.{◌≡◌, ◌<◌, length, IfOk, OnOk};
+ghost use Rattle.serde_json.specs.Data.{no_members};
 ghost use Rattle.serde_json.specs.View.{members_view, view};
 ghost use Rattle.cdk_language.specs.Construct.{resource as resource_body, resource_view};
 ghost use Rattle.cdk_tree.specs.Placed.{construct_at};
-ghost use Rattle.cdk_template.specs.Entries.{resource_members as spec_resource_members};
+ghost use Rattle.cdk_template.specs.Entries.{resource_with};
 ghost use Rattle.cdk_template.specs.Own.{spelling_of};
 ghost use Rattle.cdk_template.specs.Sources.{AreSources, RendersOwn, constructs_in};
-ghost use Rattle.cdk_template.specs.Template.{path_metadata as spec_path_metadata, resource_entry as spec_resource_entry};
+ghost use Rattle.cdk_template.specs.Template.{resource_entry as spec_resource_entry};
 
-use crate::members::{put_members_of, put_policy, put_text};
+use crate::members::{put_members_of, put_object_of_text, put_policy, put_text};
 use crate::naming::put_condition;
 use crate::sources::Sources;
 use crate::values::value_of;
@@ -17,40 +17,29 @@ use cdk_base::{Map, Value};
 use cdk_language::Resource;
 use cdk_resolve::Kept;
 use cdk_tree::NodeId;
-use serde_json::{json, put};
-use std::alloc::{AllocError, Global};
+use std::alloc::AllocError;
 
-fn path_metadata(alloc: Global, path: &str) -> Result<Value, AllocError>
-    ensures { IfOk result (λ v. view v ≡ spec_path_metadata path.now) }
-{
-    json!(in alloc; {"aws:cdk:path": path})
-}
-
-fn put_metadata(members: &mut Map, alloc: Global, path: &str) -> Result<(), AllocError>
-    ensures { OnOk result (members_view members.new.entries ≡ spec_put (codes "Metadata") (spec_path_metadata path.now) (members_view members.old.entries)) }
-{
-    let metadata = path_metadata(alloc, path)?;
-    put(members, alloc, "Metadata", metadata)
-}
-
-/// All members of a resource's entry but its properties.
-fn resource_members(
+/// Puts the members of a resource's entry in.
+fn put_resource(
+    entry: &mut Map,
     sources: &Sources<'_>,
     at: NodeId,
     resource: &Resource,
-) -> Result<Map, AllocError>
+    properties: Value,
+) -> Result<(), AllocError>
     requires within { at < length (constructs_in sources.now) }
     requires sources { AreSources sources.now }
-    ensures { IfOk result (λ m. members_view m.entries ≡ spec_resource_members (spelling_of (constructs_in sources.now)) (construct_at (constructs_in sources.now) at).path (resource_view resource.now)) }
+    requires empty { members_view entry.old.entries ≡ no_members }
+    ensures { OnOk result (members_view entry.new.entries ≡ resource_with (spelling_of (constructs_in sources.now)) (construct_at (constructs_in sources.now) at).path (resource_view resource.now) (view properties)) }
 {
     let alloc = sources.alloc;
-    let mut entry = Map::new(alloc);
-    put_policy(&mut entry, alloc, "UpdateReplacePolicy", resource.replace)?;
-    put_text(&mut entry, alloc, "Type", resource.resource_type.as_str())?;
-    put_metadata(&mut entry, alloc, sources.tree.path_of(at))?;
-    put_policy(&mut entry, alloc, "DeletionPolicy", resource.deletion)?;
-    put_condition(&mut entry, sources, &resource.condition)?;
-    Ok(entry)
+    let path = sources.tree.path_of(at);
+    put_members_of(entry, alloc, "Properties", properties)?;
+    put_policy(entry, alloc, "UpdateReplacePolicy", resource.replace)?;
+    put_text(entry, alloc, "Type", resource.resource_type.as_str())?;
+    put_object_of_text(entry, alloc, "Metadata", "aws:cdk:path", path)?;
+    put_policy(entry, alloc, "DeletionPolicy", resource.deletion)?;
+    put_condition(entry, sources, &resource.condition)
 }
 
 /// The entry of a resource.
@@ -67,8 +56,8 @@ pub(crate) fn resource_entry(
     ensures value { IfOk result (λ v. view v ≡ spec_resource_entry (spelling_of (constructs_in sources.now)) at (construct_at (constructs_in sources.now) at).path (resource_view resource.now)) }
     ensures kept { RendersOwn (constructs_in sources.now) kept.new }
 {
-    let mut entry = resource_members(sources, at, resource)?;
     let properties = value_of(sources, kept, at)?;
-    put_members_of(&mut entry, sources.alloc, "Properties", properties)?;
+    let mut entry = Map::new(sources.alloc);
+    put_resource(&mut entry, sources, at, resource, properties)?;
     Ok(Value::Object(entry))
 }

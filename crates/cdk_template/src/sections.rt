@@ -1,5 +1,6 @@
 // The sections of a stack's template that hold constructs.
 ghost use Rattle.std.specs.Prelude.{◌≡◌, ◌<◌, length, IfOk, OnOk};
+ghost use Rattle.serde_json.specs.Data.{no_members};
 ghost use Rattle.serde_json.specs.View.{members_view};
 ghost use Rattle.cdk_template.specs.Entries.{has_kind, with_entry, with_section};
 ghost use Rattle.cdk_template.specs.Own.{spelling_of};
@@ -41,25 +42,26 @@ fn put_entry(
     put(entries, sources.alloc, name, entry)
 }
 
-fn entries_of(
+fn put_entries(
+    entries: &mut Map,
     sources: &Sources<'_>,
     kept: &mut Kept<'_>,
     stack: NodeId,
     section: Section,
-) -> Result<Map, AllocError>
+) -> Result<(), AllocError>
     requires sources { AreSources sources.now }
     requires kept { RendersOwn (constructs_in sources.now) kept.old }
-    ensures entries { IfOk result (λ m. members_view m.entries ≡ section_of (constructs_in sources.now) (spelling_of (constructs_in sources.now)) stack (has_kind section)) }
+    requires empty { members_view entries.old.entries ≡ no_members }
+    ensures entries { OnOk result (members_view entries.new.entries ≡ section_of (constructs_in sources.now) (spelling_of (constructs_in sources.now)) stack (has_kind section)) }
     ensures kept { OnOk result (RendersOwn (constructs_in sources.now) kept.new) }
 {
-    let mut entries = Map::new(sources.alloc);
     for number in 0..sources.tree.len() {
         let Some(at) = sources.tree.id(number) else {
             unreachable!()
         };
-        put_entry(sources, kept, stack, section, at, &mut entries)?;
+        put_entry(sources, kept, stack, section, at, entries)?;
     }
-    Ok(entries)
+    Ok(())
 }
 
 /// Puts a section of the stack's template in, where the stack has constructs for it.
@@ -75,6 +77,7 @@ pub(crate) fn put_section(
     ensures sections { OnOk result (members_view sections.new.entries ≡ with_section (constructs_in sources.now) (spelling_of (constructs_in sources.now)) stack section (members_view sections.old.entries)) }
     ensures kept { OnOk result (RendersOwn (constructs_in sources.now) kept.new) }
 {
-    let entries = entries_of(sources, kept, stack, section)?;
+    let mut entries = Map::new(sources.alloc);
+    put_entries(&mut entries, sources, kept, stack, section)?;
     put_object_unless_empty(sections, sources.alloc, section.key(), entries)
 }

@@ -1,5 +1,6 @@
 // The template of a stack.
 ghost use Rattle.std.specs.Prelude.{◌≡◌, ◌<◌, codes, length, IfOk, OnOk};
+ghost use Rattle.serde_json.specs.Data.{no_members, object};
 ghost use Rattle.serde_json.specs.View.{members_view, view};
 ghost use Rattle.cdk_language.specs.Construct.{kind_view};
 ghost use Rattle.cdk_template.specs.Entries.{put_given};
@@ -30,23 +31,35 @@ fn put_description(sections: &mut Map, alloc: Global, kind: &Kind) -> Result<(),
     }
 }
 
-fn sections_of(
+fn put_sections(
+    sections: &mut Map,
     sources: &Sources<'_>,
     kept: &mut Kept<'_>,
     stack: NodeId,
-) -> Result<Value, AllocError>
+) -> Result<(), AllocError>
     requires within { stack < length (constructs_in sources.now) }
     requires sources { AreSources sources.now }
     requires kept { RendersOwn (constructs_in sources.now) kept.old }
+    requires empty { members_view sections.old.entries ≡ no_members }
+    ensures { OnOk result (object (members_view sections.new.entries) ≡ template_of (constructs_in sources.now) (spelling_of (constructs_in sources.now)) stack) }
+{
+    put_section(sections, sources, kept, stack, Section::Resources)?;
+    put_section(sections, sources, kept, stack, Section::Parameters)?;
+    put_section(sections, sources, kept, stack, Section::Outputs)?;
+    put_section(sections, sources, kept, stack, Section::Mappings)?;
+    put_description(sections, sources.alloc, &sources.tree.node(stack).kind)?;
+    put_section(sections, sources, kept, stack, Section::Conditions)
+}
+
+fn sections_of(sources: &Sources<'_>, stack: NodeId) -> Result<Value, AllocError>
+    requires within { stack < length (constructs_in sources.now) }
+    requires sources { AreSources sources.now }
+    requires own { SpellsOwn (constructs_in sources.now) (scope_in sources.now stack) }
     ensures { IfOk result (λ v. view v ≡ template_of (constructs_in sources.now) (spelling_of (constructs_in sources.now)) stack) }
 {
+    let mut kept = kept_for(sources, stack);
     let mut sections = Map::new(sources.alloc);
-    put_section(&mut sections, sources, kept, stack, Section::Resources)?;
-    put_section(&mut sections, sources, kept, stack, Section::Parameters)?;
-    put_section(&mut sections, sources, kept, stack, Section::Outputs)?;
-    put_section(&mut sections, sources, kept, stack, Section::Mappings)?;
-    put_description(&mut sections, sources.alloc, &sources.tree.node(stack).kind)?;
-    put_section(&mut sections, sources, kept, stack, Section::Conditions)?;
+    put_sections(&mut sections, sources, &mut kept, stack)?;
     Ok(Value::Object(sections))
 }
 
@@ -65,8 +78,7 @@ pub fn template(sources: &Sources<'_>, stack: NodeId) -> Result<Value, PassError
     requires own { SpellsOwn (constructs_in sources.now) (scope_in sources.now stack) }
     ensures { IsTemplate result (constructs_in sources.now) stack }
 {
-    let mut kept = kept_for(sources, stack);
-    let template = match sections_of(sources, &mut kept, stack) {
+    let template = match sections_of(sources, stack) {
         Ok(template) => template,
         Err(_) => return Err(PassError::Memory),
     };

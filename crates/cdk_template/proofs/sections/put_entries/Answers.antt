@@ -1,6 +1,7 @@
 use Rattle.std.proofs.Common.{◌≡◌, ◌<◌, ◌+◌, ◌-◌, length, sym, ap, ◌∙◌, arith}
 use Rattle.std.specs.Prelude.{nat_lt}
 use Rattle.std.specs.List.{range_with_len}
+use Rattle.serde_json.specs.Data.{no_members}
 use Rattle.serde_json.specs.View.{members_view}
 use Rattle.cdk_stacks.proofs.Tests.{range_rest}
 use Rattle.cdk_stacks.proofs.Within.{id_is}
@@ -8,7 +9,19 @@ use Rattle.cdk_template.specs.Entries.{has_kind, with_entry}
 use Rattle.cdk_template.specs.Own.{spelling_of}
 use Rattle.cdk_template.specs.Sources.{constructs_in}
 use Rattle.cdk_template.proofs.EntryLemmas.{filled_more, put_in}
-use Rattle.cdk_template.proofs.sections.entries_of.Goals as goal
+use Rattle.cdk_template.proofs.sections.put_entries.Goals as goal
+
+pub loop-number-init : goal.loop-number-init
+loop-number-init c =
+    let cs = constructs_in c.args.sources.now in
+    let s = spelling_of cs in
+    let stack = c.args.stack in
+    let kind = has_kind c.args.section in
+    let all : length cs ≡ length cs - 0 = omega arith in
+    record {
+      filled = ap (λ k. put_in cs s stack kind (range_with_len 0 k) no_members) all ∙ ap (put_in cs s stack kind (range_with_len 0 (length cs - 0))) (sym c.requires.empty);
+      kept = c.requires.kept;
+    }
 
 pub loop-number-preserved : goal.loop-number-preserved
 loop-number-preserved c =

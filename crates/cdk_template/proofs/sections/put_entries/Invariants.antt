@@ -6,7 +6,7 @@ use Rattle.cdk_template.specs.Own.{spelling_of}
 use Rattle.cdk_template.specs.Sources.{RendersOwn, constructs_in}
 use Rattle.cdk_template.specs.Template.{section_of}
 use Rattle.cdk_template.proofs.EntryLemmas.{put_in}
-use Rattle.cdk_template.proofs.sections.entries_of.Given as goal
+use Rattle.cdk_template.proofs.sections.put_entries.Given as goal
 
 abbrev pub invariant-loop-number : goal.invariant-loop-number
 invariant-loop-number l =
