@@ -4,7 +4,7 @@ ghost use Rattle.std.specs.Str.{bytes_eq};
 ghost use Rattle.std.specs.Option.{option_copied, option_map, is_some};
 ghost use Rattle.std.specs.FinMap as map;
 ghost use Rattle.std.specs.FinSet as set;
-ghost use Rattle.cdk_outside.specs.Stored.{part_of, lies_in, files_of, log_lies_in, GivesName, directories_of, names_lie_in};
+ghost use Rattle.cdk_memory.specs.Stored.{part_of, lies_in, files_of, log_lies_in, GivesName, directories_of, names_lie_in};
 
 #[derive(Clone, Copy)]
 pub struct Part {

@@ -2,8 +2,8 @@ use Rattle.std.proofs.Common.{◌≡◌, ap, ◌∙◌, List, ℕ, length, arith
 use Rattle.std.specs.Ordering.{nat_cmp}
 use Rattle.std.specs.Cmp.Lexicographic.{slice_cmp}
 use Rattle.std.specs.FinMap.{len, len-empty}
-use Rattle.cdk_outside.specs.Stored.{files_of, log_lies_in, names_lie_in}
-use Rattle.cdk_outside.proofs.memory_files.MemFiles.new.Goals as goal
+use Rattle.cdk_memory.specs.Stored.{files_of, log_lies_in, names_lie_in}
+use Rattle.cdk_memory.proofs.memory_files.MemFiles.new.Goals as goal
 
 pub invariant_of-result : goal.invariant_of-result
 invariant_of-result c =

@@ -11,9 +11,9 @@ use Rattle.std.specs.FinMap.{FinMap, empty, get, insert, remove, len, len-remove
 use Rattle.std.specs.Cmp.Derive.{both_true}
 use Rattle.std.proofs.lemmas.Slice.Eq.{bytes_eq-Decides}
 use Rattle.std.specs.FinSet as set
-use Rattle.cdk_outside.specs.declared.stored.Part.{Part}
-use Rattle.cdk_outside.specs.declared.stored.Change.{Change}
-use Rattle.cdk_outside.specs.Stored.{part_of, lies_in, changed, after_log, log_lies_in, files_of, GivesName, after_names, names_lie_in, directories_of}
+use Rattle.cdk_memory.specs.declared.stored.Part.{Part}
+use Rattle.cdk_memory.specs.declared.stored.Change.{Change}
+use Rattle.cdk_memory.specs.Stored.{part_of, lies_in, changed, after_log, log_lies_in, files_of, GivesName, after_names, names_lie_in, directories_of}
 
 pub front : (a b : Bool) → (a && b) ≡ true → a ≡ true
 front a b both = grind arith

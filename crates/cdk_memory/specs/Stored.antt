@@ -6,8 +6,8 @@ use Rattle.std.specs.FinMap.{FinMap, empty, insert, remove}
 use Rattle.std.specs.FinSet as set
 use Rattle.std.specs.List.{list_all}
 use Rattle.std.specs.Str.{bytes_eq}
-use Rattle.cdk_outside.specs.declared.stored.Part.{Part}
-use Rattle.cdk_outside.specs.declared.stored.Change.{Change}
+use Rattle.cdk_memory.specs.declared.stored.Part.{Part}
+use Rattle.cdk_memory.specs.declared.stored.Change.{Change}
 
 abbrev pub part_of : List ℕ → Part → List ℕ
 part_of store p = take (p.to - p.from) (drop p.from store)

@@ -2,8 +2,8 @@ use Rattle.std.proofs.Common.{sym, ◌∙◌}
 use Rattle.std.specs.Ordering.{nat_cmp}
 use Rattle.std.specs.Cmp.Lexicographic.{slice_cmp}
 use Rattle.std.specs.FinSet.{contains-empty}
-use Rattle.cdk_outside.proofs.StoredLemmas.{has_next}
-use Rattle.cdk_outside.proofs.stored.has_directory.Goals as goal
+use Rattle.cdk_memory.proofs.StoredLemmas.{has_next}
+use Rattle.cdk_memory.proofs.stored.has_directory.Goals as goal
 
 pub loop-part-init : goal.loop-part-init
 loop-part-init c = contains-empty (slice_cmp nat_cmp) c.args.name.now

@@ -1,8 +1,8 @@
 -- Worked values of the states in memory, by computation.
 use Rattle.std.proofs.Common.{◌≡◌, ◌-◌, ◌^◌, true, false, [], ◌∷◌, codes, refl}
 use Rattle.cdk_outside.specs.Calls.{next_count}
-use Rattle.cdk_outside.specs.FilesState.{new_state, put_succeeds, after_put, make_dir_succeeds, after_make_dir, after_read}
-use Rattle.cdk_outside.specs.SinkState.{taken_of}
+use Rattle.cdk_memory.specs.FilesState.{new_state, put_succeeds, after_put, make_dir_succeeds, after_make_dir, after_read}
+use Rattle.cdk_memory.specs.SinkState.{taken_of}
 
 counts_stop : next_count (2 ^ 64 - 1) ≡ 2 ^ 64 - 1
 counts_stop = refl

@@ -1,9 +1,9 @@
 -- What the fields of files in memory stand for, and what is true of them (own).
 use Rattle.std.specs.Prelude.{◌≡◌, ◌≤◌, ◌+◌, ◌*◌, true, length, vec_len, vec_capacity}
 use Rattle.std.specs.FinMap.{len}
-use Rattle.cdk_outside.specs.declared.memory_files.MemFiles.TheInside.{Inside}
-use Rattle.cdk_outside.specs.FilesState.{FilesView}
-use Rattle.cdk_outside.specs.Stored.{files_of, log_lies_in, directories_of, names_lie_in}
+use Rattle.cdk_memory.specs.declared.memory_files.MemFiles.TheInside.{Inside}
+use Rattle.cdk_memory.specs.FilesState.{FilesView}
+use Rattle.cdk_memory.specs.Stored.{files_of, log_lies_in, directories_of, names_lie_in}
 
 -- what a clause sees of the fields
 abbrev pub view_of : Inside → FilesView

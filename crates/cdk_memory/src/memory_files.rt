@@ -6,12 +6,12 @@ ghost use Rattle.std.specs.FinSet as set;
 ghost use Rattle.cdk_outside.specs.declared.traits.ReadError.TheVariants.{TooLong};
 ghost use Rattle.cdk_outside.specs.Calls.{next_count, is_listed};
 ghost use Rattle.cdk_outside.specs.Outside.{Holds, HoldsOver, with_file, without_file, with_directory, LeavesPart, CallNoted, ReadNoted};
-ghost use Rattle.cdk_outside.specs.FilesState.{new_state, with_added, IsAnswer, read_answer, after_read, put_succeeds, after_put, make_dir_succeeds, after_make_dir, remove_succeeds, after_remove};
+ghost use Rattle.cdk_memory.specs.FilesState.{new_state, with_added, IsAnswer, read_answer, after_read, put_succeeds, after_put, make_dir_succeeds, after_make_dir, remove_succeeds, after_remove};
 
 use crate::memory_sink::has_call;
 use crate::stored::{Change, Part, add_directory, find, has_directory, remove_file, set_file};
-use crate::{Failed, Files, ReadError};
 use cdk_base::{List, Text};
+use cdk_outside::{Failed, Files, ReadError};
 use std::alloc::{AllocError, Global};
 use std::marker::Model;
 
@@ -37,13 +37,13 @@ pub struct MemFiles {
 }
 
 impl Model for MemFiles {
-    ghost use Rattle.cdk_outside.specs.FilesState.{FilesView, view_code};
+    ghost use Rattle.cdk_memory.specs.FilesState.{FilesView, view_code};
 
     ghost Value = { FilesView };
 
     ghost coded = { view_code };
 
-    ghost use Rattle.cdk_outside.specs.Kept.{view_of, IsKept};
+    ghost use Rattle.cdk_memory.specs.Kept.{view_of, IsKept};
 
     ghost view = { view_of };
 

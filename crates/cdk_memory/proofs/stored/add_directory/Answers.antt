@@ -1,6 +1,6 @@
 use Rattle.std.proofs.Common.{ap, ◌∙◌, ◌++◌}
-use Rattle.cdk_outside.proofs.StoredLemmas.{directory_is, directory_lies}
-use Rattle.cdk_outside.proofs.stored.add_directory.Goals as goal
+use Rattle.cdk_memory.proofs.StoredLemmas.{directory_is, directory_lies}
+use Rattle.cdk_memory.proofs.stored.add_directory.Goals as goal
 
 pub returns-clause-directories : goal.returns-clause-directories
 returns-clause-directories c =

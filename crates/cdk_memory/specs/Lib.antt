@@ -1,0 +1,4 @@
+pub mod FilesState
+pub mod Kept
+pub mod SinkState
+pub mod Stored
