@@ -1,8 +1,8 @@
 // What only the constructs of a kind have.
-ghost use Rattle.std.specs.Prelude.{◌≡◌, IfOk, option_map, option_and_then};
+ghost use Rattle.std.specs.Prelude.{◌≡◌, IfOk, option_and_then};
 ghost use Rattle.serde_json.specs.Find.{as_object};
 ghost use Rattle.serde_json.specs.View.{view as json_view, members_view};
-ghost use Rattle.cdk_language.specs.Application.{text_at as text_in, policy_of as policy_named, parameter_form_of as parameter_form_named, properties_of as properties_in, resource_in as resource_in_members, parameter_in as parameter_in_members, output_in as output_in_members, body_in as body_in_members, expression_of as expression_in, condition_of as condition_in};
+ghost use Rattle.cdk_language.specs.Application.{parameter_form_of as parameter_form_named, properties_of as properties_in, resource_in as resource_in_members, parameter_in as parameter_in_members, output_in as output_in_members, body_in as body_in_members, expression_of as expression_in, condition_of as condition_in};
 ghost use Rattle.cdk_language.specs.Condition as condition;
 ghost use Rattle.cdk_language.specs.Construct.{kind_view};
 ghost use Rattle.cdk_language.specs.Expression.{view};
@@ -14,28 +14,10 @@ ghost use Rattle.cdk_constructs.specs.Views.{map_view};
 use cdk_base::{List, Map, Text, Value};
 use cdk_expressions::{fields_of, read_condition, read_expression};
 use cdk_heads::optional_text;
-use cdk_language::{
-    Cond, Expr, Kind, KindName, Output, Parameter, ParameterForm, Policy, Resource,
-};
-use cdk_members::{ReadError, kind_named, member, text_at};
+use cdk_language::{Cond, Expr, Kind, KindName, Output, Parameter, ParameterForm, Resource};
+use cdk_members::{ReadError, kind_named, member, policies_of, text_at};
 use cdk_substitution::Copies;
 use std::alloc::Global;
-
-fn policy_of(name: Option<&str>) -> Option<Policy>
-    ensures { result ≡ option_and_then policy_named (option_map (λ s. s.now) name.entry) }
-{
-    let name = name?;
-    if name == "Delete" {
-        return Some(Policy::Delete);
-    }
-    if name == "Retain" {
-        return Some(Policy::Retain);
-    }
-    if name == "Snapshot" {
-        return Some(Policy::Snapshot);
-    }
-    None
-}
 
 fn parameter_form_of(name: &str) -> Option<ParameterForm>
     ensures { result ≡ parameter_form_named name.now }
@@ -116,14 +98,13 @@ fn resource_in(alloc: Global, copies: &mut Copies, members: &Map) -> Result<Kind
     let resource_type = Text::new(alloc, name)?;
     let condition = optional_text(alloc, members, "condition")?;
     let properties = properties_of(alloc, copies, member(members, "properties"))?;
-    let deletion = policy_of(text_at(members, "deletionPolicy"));
-    let replace = policy_of(text_at(members, "updateReplacePolicy"));
+    let policies = policies_of(members);
     Ok(Kind::Resource(Resource {
         resource_type,
         properties,
         condition,
-        deletion,
-        replace,
+        deletion: policies.deletion,
+        replace: policies.replace,
     }))
 }
 

@@ -2,7 +2,7 @@
 ghost use Rattle.std.specs.Prelude.{◌≡◌, IfOk, option_and_then};
 ghost use Rattle.serde_json.specs.Find.{as_object, get_member};
 ghost use Rattle.serde_json.specs.View.{view as json_view, items_view, members_view};
-ghost use Rattle.cdk_language.specs.Application.{text_at as text_in, texts_of as texts_in, entry_in as entry_in_members, entries_of as entries_in, if_given, context_in as context_in_members, head_in as head_in_members, priority_of as priority_in};
+ghost use Rattle.cdk_language.specs.Application.{text_at as text_in, texts_of as texts_in, entry_in as entry_in_members, entries_of as entries_in, if_given, context_in as context_in_members, head_in as head_in_members};
 ghost use Rattle.cdk_language.specs.Construct.{entry_view};
 ghost use Rattle.cdk_members.specs.Gives.{Gives};
 ghost use Rattle.cdk_members.specs.Views.{data_view};
@@ -10,14 +10,8 @@ ghost use Rattle.cdk_heads.specs.Views.{head_view, entries_view, as_they_are};
 
 use cdk_base::{List, Map, Text, Value};
 use cdk_language::Entry;
-use cdk_members::{ReadError, member, text_at};
+use cdk_members::{ReadError, member, priority_of, text_at};
 use std::alloc::{AllocError, Global};
-
-/// The priority of an aspect entry that gives none.
-const USUAL_PRIORITY: u32 = 500;
-
-/// The greatest priority of an aspect entry.
-const GREATEST_PRIORITY: u64 = 1_000_000;
 
 /// The parts of a construct beside its kind and its children.
 #[derive(Drop)]
@@ -63,21 +57,6 @@ fn texts_of(alloc: Global, items: &Vec<Value>) -> Result<List<Text>, ReadError>
         found.push(Text::new(alloc, text)?)?;
     }
     Ok(found)
-}
-
-fn priority_of(value: Option<&Value>) -> Result<u32, ReadError>
-    ensures { Gives (λ n. n) result (priority_in (data_view value.entry)) }
-{
-    let Some(value) = value else {
-        return Ok(USUAL_PRIORITY);
-    };
-    let Some(n) = value.as_u64() else {
-        return Err(ReadError::Shape);
-    };
-    if n > GREATEST_PRIORITY {
-        return Err(ReadError::Shape);
-    }
-    Ok(n as u32)
 }
 
 fn entry_in(alloc: Global, members: &Map) -> Result<Entry, ReadError>

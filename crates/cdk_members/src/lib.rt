@@ -1,5 +1,6 @@
 //! Looking at the parts of a JSON value: the members of an object, the items of a short array, the form of an expression
-//! and the kind of a construct that a text names. What reads a value may answer that it has no reading.
+//! and the kind of a construct that a text names, the priority of an aspect entry, and the policies of a resource. What
+//! reads a value may answer that it has no reading.
 #![tactic(auto)]
 
 mod error;
@@ -7,9 +8,13 @@ mod forms;
 mod items;
 mod kinds;
 mod members;
+mod policies;
+mod priorities;
 
 pub use error::ReadError;
 pub use forms::{FormName, form_named};
 pub use items::{one_of, three_of, two_of};
 pub use kinds::kind_named;
 pub use members::{has_form_key, is_form_key, lacks, member, only_member, text_at};
+pub use policies::{Policies, policies_of};
+pub use priorities::priority_of;
