@@ -7,4 +7,3 @@ pub mod LawExpressions
 pub mod LawHeads
 pub mod LawMembers
 pub mod LawPlaces
-pub mod Seen

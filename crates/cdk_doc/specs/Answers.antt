@@ -13,10 +13,7 @@ use Rattle.cdk_language.specs.Application.{application_of, with_settings}
 use Rattle.cdk_language.specs.Construct.{Application, app_view}
 use Rattle.cdk_language.specs.Findings.{findings, setting_findings, first}
 use Rattle.cdk_language.specs.declared.construct.App.{App}
-use Rattle.cdk_language.specs.declared.finding.Finding.{Finding}
-
-abbrev pub fault_of : Finding → Fault
-fault_of f = faults.App f.code f.place
+use Rattle.cdk_settings.specs.Answers.{IsSettingsFault}
 
 -- the document's application, where nothing is found in it
 pub record IsReadAs (bytes : List ℕ) (app : Application) : Type 0 where
@@ -61,12 +58,6 @@ ReadAnswer (Ok app) bytes = IsReadAs bytes (app_view app)
 ReadAnswer (Err faults.Memory) bytes = Unit {0}
 ReadAnswer (Err (faults.App code place)) bytes = IsNotJson bytes code place ⊎ IsFirstFinding bytes code place
 ReadAnswer (Err (faults.Refused place name text)) bytes = ⊥
-
--- the fault is that of the settings' first finding, or want of memory
-abbrev pub IsSettingsFault : Fault → List Setting → Type 0
-IsSettingsFault faults.Memory settings = Unit {0}
-IsSettingsFault (faults.App code place) settings = first (setting_findings settings) ≡ Some (record { code = code; place = place })
-IsSettingsFault (faults.Refused place name text) settings = ⊥
 
 -- what settings make of an application, or their fault
 abbrev pub LaidAnswer : {X : Type 0} → Result X Fault → Application → Application → List Setting → Type 0

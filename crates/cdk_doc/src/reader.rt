@@ -2,12 +2,12 @@
 ghost use Rattle.serde_json.specs.View.{view};
 ghost use Rattle.cdk_doc.specs.Answers.{ReadAnswer, DocumentAnswer, ParseAnswer, IsNotJsonFault};
 
-use crate::settings::fault_of;
 use cdk_base::{Code, Fault, Text, Value, parse};
 use cdk_constructs::application_of;
 use cdk_findings::first_finding;
 use cdk_language::App;
 use cdk_members::ReadError;
+use cdk_settings::fault_of;
 use std::alloc::Global;
 
 fn not_json(alloc: Global) -> Fault

@@ -1,8 +1,8 @@
 // Settings of the command line.
 use cdk_base::{Fault, Setting, Text, Value};
 use cdk_doc::{read_app, with_settings};
-use cdk_findings::first_setting_finding;
 use cdk_language::Finding;
+use cdk_settings::first_setting_finding;
 use cdk_tally::{Tally, Trouble};
 use cdk_tree::{Tree, build};
 use std::alloc::{AllocError, Global};

@@ -9,12 +9,13 @@ use Rattle.cdk_base.specs.declared.code.Code.TheVariants.{NotJson, Shape, TooLon
 use Rattle.cdk_base.specs.declared.fault.Fault.{Fault}
 use Rattle.cdk_base.specs.declared.fault.Fault.TheVariants as faults
 use Rattle.cdk_carried.specs.Carried.{is_carried}
-use Rattle.cdk_doc.specs.Answers.{IsReadAs, IsSettingsFault, ReadAnswer}
+use Rattle.cdk_doc.specs.Answers.{IsReadAs, ReadAnswer}
 use Rattle.cdk_language.specs.Application.{application_of, with_settings}
 use Rattle.cdk_language.specs.Construct.{Application}
 use Rattle.cdk_language.specs.Findings as document
 use Rattle.cdk_language.specs.Findings.{setting_findings}
 use Rattle.cdk_language.specs.declared.finding.Finding.{Finding}
+use Rattle.cdk_settings.specs.Answers.{IsSettingsFault}
 use Rattle.cdk_tree.specs.PlaceFindings.{first, place_findings}
 use Rattle.cdk_tree.specs.Placed.{Placed, constructs_of}
 use Rattle.cdk_tree.specs.TreeView as built

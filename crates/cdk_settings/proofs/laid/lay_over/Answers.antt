@@ -5,8 +5,8 @@ use Rattle.serde_json.specs.View.{view, members_view}
 use Rattle.serde_json.specs.declared.value.Value.{String}
 use Rattle.serde_json.proofs.Views.{members_view-insert_entry}
 use Rattle.cdk_language.specs.Application.{laid_over}
-use Rattle.cdk_doc.proofs.Seen.{view-String}
-use Rattle.cdk_doc.proofs.settings.lay_over.Goals as goal
+use Rattle.cdk_settings.proofs.Seen.{view-String}
+use Rattle.cdk_settings.proofs.laid.lay_over.Goals as goal
 
 pub loop-setting-preserved : goal.loop-setting-preserved
 loop-setting-preserved c =

@@ -1,4 +1,4 @@
-// Settings that are laid over an application's context.
+// Settings that hold a marker's beginning.
 ghost use Rattle.std.specs.Prelude.{◌≡◌, ◌++◌, ◌||◌, codes, IfOk};
 ghost use Rattle.cdk_base.specs.Marker.{has_marker as spec_has_marker};
 ghost use Rattle.cdk_language.specs.Findings.{setting_findings, first};
