@@ -5,7 +5,7 @@ use crate::world::World;
 use cdk_base::{Map, Value};
 use cdk_outside::{Files, MemFiles};
 use cdk_tally::Trouble;
-use cdk_tool::Status;
+use cdk_words::Status;
 use std::alloc::Global;
 
 // Whether a stream holds the text that the case has by the key.

@@ -7,7 +7,7 @@ use crate::world::World;
 use cdk_base::{Map, Value};
 use cdk_outside::{Files, MemFiles};
 use cdk_tally::{Tally, Trouble, text_of_file};
-use cdk_tool::Status;
+use cdk_words::Status;
 use std::alloc::Global;
 
 // Which file of a case is cut, and how many bytes are left of it.

@@ -3,7 +3,8 @@ use crate::members::items_of;
 use cdk_base::{List, Text, Value};
 use cdk_outside::{MemFiles, MemSink};
 use cdk_tally::{Trouble, texts_of};
-use cdk_tool::{Status, run};
+use cdk_tool::run;
+use cdk_words::Status;
 use std::alloc::Global;
 
 // Room for the directories and the bytes that a run writes, where its case gives none.

@@ -19,12 +19,13 @@ use Rattle.cdk_language.specs.declared.finding.Finding.{Finding}
 use Rattle.cdk_mentions.proofs.PlainApplications.{applications_are_rooted, operands_are_read_plain}
 use Rattle.cdk_mentions.specs.OneTree.{IsRooted}
 use Rattle.cdk_mentions.specs.Operands.{OperandsArePlain}
+use Rattle.cdk_passes.specs.Faults.{IsFaultOf, first_of, here}
 use Rattle.cdk_tree.specs.PlaceFindings.{first, place_findings}
 use Rattle.cdk_tree.specs.Placed.{Placed, constructs_of}
 use Rattle.cdk_written.proofs.Walked.{carried_constructs_are_one_stack}
 use Rattle.cdk_synthesis.specs.Assembly.{application_in, assembly_of, files_in, placed_in, tree_of}
-use Rattle.cdk_synthesis.specs.Checks.{Answers, AreCounted, IsBuilt, IsFaultOf, Synthesises}
-use Rattle.cdk_synthesis.specs.Passes.{first_fault, first_of, here, laid, passes, tree_passes}
+use Rattle.cdk_synthesis.specs.Checks.{Answers, AreCounted, IsBuilt, Synthesises}
+use Rattle.cdk_synthesis.specs.Passes.{first_fault, laid, passes, tree_passes}
 use Rattle.cdk_synthesis.specs.declared.files.File.{File}
 use Rattle.cdk_synthesis.proofs.FaultLemmas.{application_read}
 

@@ -16,6 +16,7 @@ use Rattle.cdk_language.specs.Findings as document
 use Rattle.cdk_language.specs.Findings.{setting_findings}
 use Rattle.cdk_language.specs.declared.finding.Finding.{Finding}
 use Rattle.cdk_settings.specs.Answers.{IsSettingsFault}
+use Rattle.cdk_passes.specs.Faults.{IsFaultOf, IsPassFault, at_path, first_of, here, told}
 use Rattle.cdk_tree.specs.PlaceFindings.{first, place_findings}
 use Rattle.cdk_tree.specs.Placed.{Placed, constructs_of}
 use Rattle.cdk_tree.specs.TreeView as built
@@ -23,9 +24,9 @@ use Rattle.cdk_tree.specs.declared.role.Found.{Found}
 use Rattle.cdk_tree.specs.declared.role.PassError.{PassError}
 use Rattle.cdk_tree.specs.declared.role.PassError.TheVariants as errors
 use Rattle.cdk_tree.specs.declared.tree.Tree.{Tree}
-use Rattle.cdk_synthesis.specs.Checks.{Answers, Builds, IsFaultOf, IsPassFault}
+use Rattle.cdk_synthesis.specs.Checks.{Answers, Builds}
 use Rattle.cdk_synthesis.specs.Files.{IsFirst}
-use Rattle.cdk_synthesis.specs.Passes.{application_fault, at_path, carried_findings, document_fault, first_fault, first_of, here, laid, passes, told, tree_passes}
+use Rattle.cdk_synthesis.specs.Passes.{application_fault, carried_findings, document_fault, first_fault, laid, passes, tree_passes}
 use Rattle.cdk_synthesis.specs.declared.files.File.{File}
 
 -- ---- one pass after another

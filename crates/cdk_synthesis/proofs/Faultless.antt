@@ -13,6 +13,7 @@ use Rattle.cdk_language.specs.Findings as document
 use Rattle.cdk_language.specs.Findings.{setting_findings}
 use Rattle.cdk_language.specs.declared.finding.Finding.{Finding}
 use Rattle.cdk_lazies.specs.CycleFindings.{cycle_findings}
+use Rattle.cdk_passes.specs.Faults.{at_path, first_of, here, told}
 use Rattle.cdk_sizes.specs.SizeFindings.{size_findings}
 use Rattle.cdk_stacks.specs.Claims.{name_findings}
 use Rattle.cdk_template.specs.Counts.{count_findings}
@@ -26,7 +27,7 @@ use Rattle.cdk_tree.specs.declared.role.Found.{Found}
 use Rattle.cdk_values.specs.Findings.{value_findings}
 use Rattle.cdk_synthesis.specs.Assembly.{application_in}
 use Rattle.cdk_synthesis.specs.Checks.{IsBuilt}
-use Rattle.cdk_synthesis.specs.Passes.{application_fault, at_path, carried_findings, document_fault, first_fault, first_of, here, laid, marked_passes, passes, template_passes, told, tree_passes, value_passes}
+use Rattle.cdk_synthesis.specs.Passes.{application_fault, carried_findings, document_fault, first_fault, laid, marked_passes, passes, template_passes, tree_passes, value_passes}
 use Rattle.cdk_synthesis.proofs.BuiltTrees.{IsRead, application_is, tree_is_built}
 
 -- ---- none of all passes

@@ -1,8 +1,7 @@
 -- What the steps of a synthesis answer.
-use Rattle.std.specs.Prelude.{◌≡◌, ◌<◌, ◌^◌, ℕ, List, [], length, true, Option, Some, None, Result, Ok, Err, ⊤}
+use Rattle.std.specs.Prelude.{◌≡◌, ◌<◌, ◌^◌, ℕ, List, [], length, true, None, Result, Ok, Err}
 use Rattle.cdk_base.specs.declared.Setting.{Setting}
 use Rattle.cdk_base.specs.declared.fault.Fault.{Fault}
-use Rattle.cdk_base.specs.declared.fault.Fault.TheVariants.{Memory, App, Refused}
 use Rattle.cdk_carried.specs.Carried.{is_carried}
 use Rattle.cdk_elements.specs.OneStack.{AreOneStack}
 use Rattle.cdk_expansion.specs.Clean.{TreeIsClean}
@@ -13,28 +12,16 @@ use Rattle.cdk_language.specs.declared.finding.Finding.{Finding}
 use Rattle.cdk_lazies.specs.CycleFindings.{cycle_findings}
 use Rattle.cdk_mentions.specs.OneTree.{IsRooted}
 use Rattle.cdk_mentions.specs.Operands.{OperandsArePlain}
+use Rattle.cdk_passes.specs.Faults.{IsFaultOf, first_of}
 use Rattle.cdk_tokens.specs.Token.{Token}
 use Rattle.cdk_tokens.specs.Whole.{MarkedBody, marking, tokens_of}
 use Rattle.cdk_tree.specs.PlaceFindings.{place_findings}
 use Rattle.cdk_tree.specs.Placed.{Placed, constructs_of}
 use Rattle.cdk_tree.specs.TreeView.{constructs}
-use Rattle.cdk_tree.specs.declared.role.PassError.{PassError}
-use Rattle.cdk_tree.specs.declared.role.PassError.TheVariants as errors
 use Rattle.cdk_tree.specs.declared.tree.Tree.{Tree}
 use Rattle.cdk_synthesis.specs.Assembly.{assembly_of, files_of, tree_of}
-use Rattle.cdk_synthesis.specs.Passes.{at_path, first_fault, first_of, passes}
+use Rattle.cdk_synthesis.specs.Passes.{first_fault, passes}
 use Rattle.cdk_synthesis.specs.declared.files.File.{File}
-
--- the fault is the one that is found, or want of memory, which is free
-abbrev pub IsFaultOf : Option Finding → Fault → Type 0
-IsFaultOf stated Memory = ⊤
-IsFaultOf stated (App code place) = stated ≡ Some (record { code = code; place = place })
-IsFaultOf stated (Refused place name text) = ⊥
-
--- the fault that a pass over constructs has found, or want of memory
-abbrev pub IsPassFault : List Placed → PassError → Fault → Type 0
-IsPassFault cs errors.Memory fault = fault ≡ Memory
-IsPassFault cs (errors.Fault f) fault = IsFaultOf (Some (at_path cs f)) fault
 
 -- they are the marked values and the tokens of the constructs
 pub record AreMarksOf (cs : List Placed) (ms : List MarkedBody) (ts : List Token) : Type 0 where

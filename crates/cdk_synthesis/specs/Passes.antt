@@ -1,10 +1,9 @@
 -- What is wrong with an application, pass after pass, and the first of it (own).
-use Rattle.std.specs.Prelude.{ℕ, nat_lt, if◌then◌else◌, List, [], ◌∷◌, length, map, Option, Some, None, option_map}
+use Rattle.std.specs.Prelude.{ℕ, nat_lt, if◌then◌else◌, List, [], ◌∷◌, length, Option, Some, None, option_map}
 use Rattle.std.specs.Option.{option_or}
 use Rattle.serde_json.specs.Data.{Data}
 use Rattle.cdk_base.specs.Json.{parsed}
 use Rattle.cdk_base.specs.declared.Setting.{Setting}
-use Rattle.cdk_base.specs.declared.code.Code.{Code}
 use Rattle.cdk_base.specs.declared.code.Code.TheVariants.{TooLong, NotJson, Shape}
 use Rattle.cdk_carried.specs.Carried.{is_carried}
 use Rattle.cdk_language.specs.Application.{application_of, with_settings}
@@ -13,6 +12,7 @@ use Rattle.cdk_language.specs.Findings as document
 use Rattle.cdk_language.specs.Findings.{setting_findings}
 use Rattle.cdk_language.specs.declared.finding.Finding.{Finding}
 use Rattle.cdk_lazies.specs.CycleFindings.{cycle_findings}
+use Rattle.cdk_passes.specs.Faults.{first_of, here, told}
 use Rattle.cdk_sizes.specs.SizeFindings.{size_findings}
 use Rattle.cdk_stacks.specs.Claims.{name_findings}
 use Rattle.cdk_template.specs.Counts.{count_findings}
@@ -20,20 +20,9 @@ use Rattle.cdk_template.specs.Markers.{marker_findings}
 use Rattle.cdk_tokens.specs.Contexts.{context_findings}
 use Rattle.cdk_tokens.specs.Whole.{marking, tokens_of}
 use Rattle.cdk_tree.specs.Expected.{target_findings}
-use Rattle.cdk_tree.specs.PlaceFindings.{first, place_findings}
-use Rattle.cdk_tree.specs.Placed.{Placed, construct_at, constructs_of}
-use Rattle.cdk_tree.specs.declared.role.Found.{Found}
+use Rattle.cdk_tree.specs.PlaceFindings.{place_findings}
+use Rattle.cdk_tree.specs.Placed.{Placed, constructs_of}
 use Rattle.cdk_values.specs.Findings.{value_findings}
-
-abbrev pub here : Code → Finding
-here code = record { code = code; place = [] }
-
--- at the path of its construct
-abbrev pub at_path : List Placed → Found → Finding
-at_path cs f = record { code = f.code; place = (construct_at cs f.at).path }
-
-abbrev pub told : List Placed → List Found → List Finding
-told cs fs = map (at_path cs) fs
 
 -- an application that is of no form that is carried yet
 abbrev pub carried_findings : Application → List Finding
@@ -65,11 +54,6 @@ abbrev pub passes : Application → List (List Finding)
 passes a = carried_findings a ∷ place_findings (constructs_of a) ∷ tree_passes (constructs_of a)
 
 -- ---- the first
-
--- the first finding of the first pass that has one
-abbrev pub first_of : List (List Finding) → Option Finding
-first_of [] = None
-first_of (fs ∷ rest) = option_or (first fs) (first_of rest)
 
 abbrev pub application_fault : Option Application → Option Finding
 application_fault None = None

@@ -1,7 +1,6 @@
 //! Synthesis: from the bytes of an application to the files of its assembly, all in memory.
 #![tactic(auto)]
 
-mod faults;
 mod files;
 mod laws;
 mod passes;
@@ -9,7 +8,6 @@ mod stacks;
 mod synthesis;
 mod values;
 
-pub use faults::fault_at_root;
 pub use files::File;
 pub use laws::{files_are_named, files_keep_meaning};
 pub use synthesis::{MOST_BYTES, synth};

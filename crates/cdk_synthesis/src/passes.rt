@@ -10,7 +10,6 @@ ghost use Rattle.cdk_synthesis.specs.Assembly.{AllUtf8};
 ghost use Rattle.cdk_synthesis.specs.Checks.{AreMarksOf, Answers, Builds, IsBuilt, IsMarked, IsOrdered};
 ghost use Rattle.cdk_synthesis.specs.Passes.{marked_passes, template_passes, tree_passes, value_passes};
 
-use crate::faults::{fault_at, fault_at_root, pass_fault};
 use crate::files::{File, files_of};
 use crate::stacks::first_stack;
 use cdk_base::{Code, Fault, List};
@@ -18,6 +17,7 @@ use cdk_carried::is_carried;
 use cdk_language::App;
 use cdk_lazies::lazy_order;
 use cdk_local_homes::local_homes;
+use cdk_passes::{fault_at, fault_at_root, pass_fault};
 use cdk_rendered::{condition_renderings_are_own, renderings_are_own, values_fit};
 use cdk_sizes::check_sizes;
 use cdk_stacks::{Names, names};

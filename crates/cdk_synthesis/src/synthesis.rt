@@ -3,11 +3,11 @@ ghost use Rattle.std.specs.Prelude.{IfOk};
 ghost use Rattle.cdk_synthesis.specs.Assembly.{AllUtf8};
 ghost use Rattle.cdk_synthesis.specs.Checks.{Synthesises};
 
-use crate::faults::fault_at_root;
 use crate::files::File;
 use crate::passes::{files_of_tree, tree_of};
 use cdk_base::{Code, Fault, List, Setting};
 use cdk_doc::{read_app, with_settings};
+use cdk_passes::fault_at_root;
 use std::alloc::Global;
 
 /// The most bytes of an application: 16 MiB.

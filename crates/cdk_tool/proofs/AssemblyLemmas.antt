@@ -4,7 +4,8 @@ use Rattle.std.proofs.lemmas.Bool.Decides.{nat_tests}
 use Rattle.cdk_base.specs.Json.{parsed}
 use Rattle.cdk_base.specs.declared.Setting.{Setting}
 use Rattle.cdk_base.specs.declared.code.Code.TheVariants.{TooLong}
-use Rattle.cdk_synthesis.specs.Passes.{document_fault, first_fault, here}
+use Rattle.cdk_passes.specs.Faults.{here}
+use Rattle.cdk_synthesis.specs.Passes.{document_fault, first_fault}
 
 pub long_fault : (bytes : List ℕ) (settings : List Setting) → 16777216 < length bytes → first_fault bytes settings ≡ Some (here TooLong)
 long_fault bytes settings long =

@@ -5,18 +5,18 @@ use Rattle.cdk_base.specs.declared.code.Code.TheVariants.{TooLong}
 use Rattle.cdk_base.specs.declared.fault.Fault.{Fault}
 use Rattle.cdk_base.specs.declared.fault.Fault.TheVariants.{Memory, App, Refused}
 use Rattle.cdk_outside.specs.Outside.{Contents, Directories, Holds, HoldsOver}
+use Rattle.cdk_passes.specs.Faults.{IsFaultOf, here}
 use Rattle.cdk_write.specs.Lines.{write_line, Says}
 use Rattle.cdk_write.specs.Steps.{WriteStep, step_path, StoppedAt}
 use Rattle.cdk_language.specs.declared.finding.Finding.{Finding}
 use Rattle.cdk_synthesis.specs.Assembly.{assembly_of}
-use Rattle.cdk_synthesis.specs.Checks.{IsFaultOf}
-use Rattle.cdk_synthesis.specs.Passes.{first_fault, here}
+use Rattle.cdk_synthesis.specs.Passes.{first_fault}
 use Rattle.cdk_tool.specs.Assembly.{steps_of}
 use Rattle.cdk_tool.specs.Causes.{HasFault, IsCause, IsUnsynthesised, IsCut, IsToldFault, IsToldRefusal, IsAppFault}
 use Rattle.cdk_tool.specs.declared.top.Refusal.{Refusal}
 use Rattle.cdk_tool.specs.declared.top.Refusal.TheVariants.{Unread, Faulty, NoRoom}
-use Rattle.cdk_tool.specs.declared.status.Status.{Status}
-use Rattle.cdk_tool.specs.declared.status.Status.TheVariants.{AppFault}
+use Rattle.cdk_words.specs.declared.status.Status.{Status}
+use Rattle.cdk_words.specs.declared.status.Status.TheVariants.{AppFault}
 use Rattle.cdk_write.proofs.StandingLemmas.{stands_at}
 use Rattle.cdk_tool.proofs.AssemblyLemmas.{long_fault}
 use Rattle.cdk_tool.proofs.ManifestLemmas.{manifest_stands, early_files, first_directories}

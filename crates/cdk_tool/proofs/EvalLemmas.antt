@@ -8,8 +8,8 @@ use Rattle.cdk_tool.specs.declared.inputs.Defect.{Defect}
 use Rattle.cdk_tool.specs.declared.inputs.Defect.TheVariants as defects
 use Rattle.cdk_tool.specs.declared.inputs.Unusable.{Unusable}
 use Rattle.cdk_tool.specs.declared.inputs.Unusable.TheVariants.{Unread, Bad, NoRoom}
-use Rattle.cdk_tool.specs.declared.status.Status.{Status}
-use Rattle.cdk_tool.specs.declared.status.Status.TheVariants.{BadInput}
+use Rattle.cdk_words.specs.declared.status.Status.{Status}
+use Rattle.cdk_words.specs.declared.status.Status.TheVariants.{BadInput}
 use Rattle.cdk_tool.specs.Evaluation.{InputFault, ComesTo, evaluated, is_told}
 use Rattle.cdk_tool.specs.EvalCauses.{Files, input_of, misread_of, input_fault, ReadsInput, IsBadInput, IsToldUnusable}
 

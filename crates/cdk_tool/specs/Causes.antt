@@ -6,18 +6,18 @@ use Rattle.cdk_base.specs.declared.code.Code.{Code}
 use Rattle.cdk_base.specs.declared.fault.Fault.{Fault}
 use Rattle.cdk_base.specs.declared.fault.Fault.TheVariants.{App}
 use Rattle.cdk_outside.specs.Outside.{Contents, Directories, Holds, Rose}
+use Rattle.cdk_passes.specs.Faults.{IsFaultOf}
 use Rattle.cdk_write.specs.Lines.{read_line, write_line, error_line, memory_line, Says}
 use Rattle.cdk_write.specs.Standing.{StandsAt}
 use Rattle.cdk_write.specs.Steps.{path_in, step_path, files_after_all, directories_after_all, StoppedAt}
 use Rattle.cdk_synthesis.specs.Assembly.{assembly_of}
-use Rattle.cdk_synthesis.specs.Checks.{IsFaultOf}
 use Rattle.cdk_synthesis.specs.Passes.{first_fault}
 use Rattle.cdk_synthesis.specs.declared.files.File.{File}
 use Rattle.cdk_tool.specs.Assembly.{steps_of}
 use Rattle.cdk_tool.specs.declared.top.Refusal.{Refusal}
 use Rattle.cdk_tool.specs.declared.top.Refusal.TheVariants.{Unread, Faulty, NoRoom}
-use Rattle.cdk_tool.specs.declared.status.Status.{Status}
-use Rattle.cdk_tool.specs.declared.status.Status.TheVariants.{AppFault, ReadFault, NoMemory}
+use Rattle.cdk_words.specs.declared.status.Status.{Status}
+use Rattle.cdk_words.specs.declared.status.Status.TheVariants.{AppFault, ReadFault, NoMemory}
 
 -- the application, where told, has this fault first with these settings
 abbrev pub HasFault : Contents → List ℕ → List Setting → Fault → Type 0

@@ -13,8 +13,8 @@ use Rattle.cdk_eval.specs.Views.{values_view}
 use Rattle.cdk_outside.specs.Outside.{Contents, Rose, with_bytes, AppendsPart}
 use Rattle.cdk_printing.specs.Lines.{report_text, has_fault}
 use Rattle.cdk_write.specs.Lines.{read_line, write_line, memory_line, Says}
-use Rattle.cdk_tool.specs.declared.status.Status.{Status}
-use Rattle.cdk_tool.specs.declared.status.Status.TheVariants.{Done, EvalFaults, ReadFault, WriteFault, NoMemory, BadInput}
+use Rattle.cdk_words.specs.declared.status.Status.{Status}
+use Rattle.cdk_words.specs.declared.status.Status.TheVariants.{Done, EvalFaults, ReadFault, WriteFault, NoMemory, BadInput}
 use Rattle.cdk_tool.specs.declared.inputs.Source.{Source}
 use Rattle.cdk_tool.specs.declared.inputs.Source.TheVariants as sources
 use Rattle.cdk_tool.specs.declared.inputs.Defect.{Defect}

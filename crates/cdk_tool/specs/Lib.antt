@@ -3,4 +3,3 @@ pub mod Causes
 pub mod EvalCauses
 pub mod Evaluation
 pub mod Headline
-pub mod Status

@@ -6,15 +6,15 @@ ghost use Rattle.cdk_printing.specs.Lines.{report_text as text_of_report};
 ghost use Rattle.cdk_printing.specs.Printable.{IsPrintable};
 ghost use Rattle.cdk_write.specs.Lines.{write_line, memory_line, Says};
 ghost use Rattle.cdk_tool.specs.EvalCauses.{reported_status, is_reported, IsPrinted, IsShown, IsReported, IsPartlyReported, IsBadInput, IsUnread, IsToldUnusable};
-ghost use Rattle.cdk_tool.specs.Status.{is_of_eval, is_of_printing};
+ghost use Rattle.cdk_words.specs.Status.{is_of_eval, is_of_printing};
 
-use crate::Status;
 use crate::inputs::{Unusable, report_in};
 use crate::top::out_of_memory;
 use cdk_base::Text;
 use cdk_eval::Report;
 use cdk_outside::{Failed, Files, Sink};
 use cdk_printing::{has_fault, report_text};
+use cdk_words::Status;
 use cdk_write::{input_text, read_text, tell, write_text};
 use std::alloc::{AllocError, Global};
 

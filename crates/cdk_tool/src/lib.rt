@@ -3,8 +3,6 @@
 
 mod evaluation;
 mod inputs;
-mod status;
 mod top;
 
-pub use status::Status;
 pub use top::run;

@@ -12,15 +12,15 @@ ghost use Rattle.cdk_tool.specs.Headline.{MeaningIsKept};
 ghost use Rattle.cdk_tool.specs.EvalCauses.{is_reported, IsReported, IsPartlyReported, IsBadInput, IsUnread};
 ghost use Rattle.cdk_words.specs.Settings.{settings_in};
 ghost use Rattle.cdk_words.specs.Words.{command_of, OnSynth, OnEval};
-ghost use Rattle.cdk_tool.specs.Status.{is_of_synth, is_of_writing, may_answer, may_have_written, may_have_printed, IsComplete, IsCompleteEval};
+ghost use Rattle.cdk_words.specs.Status.{is_of_synth, is_of_writing, may_answer, may_have_written, may_have_printed, IsComplete, IsCompleteEval};
 ghost use Rattle.cdk_tool.specs.Causes.{IsCause, IsUnsynthesised, IsDone, IsCut, IsReadFault, IsAppFault, IsToldFault, IsToldRefusal};
 
-use crate::Status;
 use crate::evaluation::eval_command;
 use cdk_base::{Code, Fault, List, Setting, Text};
 use cdk_outside::{Files, ReadError, Sink};
-use cdk_synthesis::{File, MOST_BYTES, fault_at_root, files_keep_meaning, synth};
-use cdk_words::{Command, plain, settings_of};
+use cdk_passes::fault_at_root;
+use cdk_synthesis::{File, MOST_BYTES, files_keep_meaning, synth};
+use cdk_words::{Command, Status, plain, settings_of};
 use cdk_write::{
     Action, BAD_WORDS, OUT_OF_MEMORY, Step, error_text, path_in, read_text, tell, write_steps,
 };

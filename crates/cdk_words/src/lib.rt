@@ -1,8 +1,10 @@
-//! The words of the command line: what a command is, and what its settings are.
+//! The command line: what a command is, what its settings are, and how a command ends.
 #![tactic(auto)]
 
 mod settings;
+mod status;
 mod words;
 
 pub use settings::settings_of;
+pub use status::Status;
 pub use words::{Command, plain};

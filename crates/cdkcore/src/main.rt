@@ -3,7 +3,8 @@
 
 use cdk_base::{List, Text};
 use cdk_outside::{DiskFiles, StdSink};
-use cdk_tool::{Status, run};
+use cdk_tool::run;
+use cdk_words::Status;
 use cdk_write::{OUT_OF_MEMORY, tell};
 use std::alloc::{AllocError, Global};
 use std::env;
@@ -42,5 +43,5 @@ fn start(rt: HostRuntime) -> Status {
 
 fn main(rt: HostRuntime) -> ExitCode {
     let status = start(rt);
-    ExitCode::from(status.number() as u8)
+    ExitCode::from(status.code())
 }

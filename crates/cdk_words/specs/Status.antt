@@ -1,8 +1,8 @@
 -- The exit statuses, and which answers may come of which command (own).
 use Rattle.std.specs.Prelude.{ℕ, Bool, true, false, ⊤, Option, Some}
 use Rattle.cdk_words.specs.Words.{CommandWords, SynthWords, EvalWords}
-use Rattle.cdk_tool.specs.declared.status.Status.{Status}
-use Rattle.cdk_tool.specs.declared.status.Status.TheVariants.{Done, AppFault, BadWords, EvalFaults, ReadFault, WriteFault, NoMemory, BadInput}
+use Rattle.cdk_words.specs.declared.status.Status.{Status}
+use Rattle.cdk_words.specs.declared.status.Status.TheVariants.{Done, AppFault, BadWords, EvalFaults, ReadFault, WriteFault, NoMemory, BadInput}
 
 abbrev pub status_number : Status → ℕ
 status_number Done = 0

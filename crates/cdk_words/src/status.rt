@@ -1,5 +1,6 @@
+// How a command ends.
 ghost use Rattle.std.specs.Prelude.{pos, ◌≡◌};
-ghost use Rattle.cdk_tool.specs.Status.{status_number};
+ghost use Rattle.cdk_words.specs.Status.{status_number};
 
 /// How a command ended. Its number is the program's exit status.
 #[derive(Clone, Copy, Debug, PartialEq, Eq)]
@@ -37,5 +38,12 @@ impl Status {
             Status::NoMemory => 6,
             Status::BadInput => 7,
         }
+    }
+
+    /// The exit status of the program: the number.
+    pub fn code(self) -> u8
+        ensures { result ≡ status_number self }
+    {
+        self.number() as u8
     }
 }

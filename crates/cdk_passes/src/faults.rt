@@ -2,8 +2,7 @@
 ghost use Rattle.std.specs.Prelude.{◌≡◌, Some};
 ghost use Rattle.cdk_tree.specs.Placed.{construct_at};
 ghost use Rattle.cdk_tree.specs.TreeView.{constructs};
-ghost use Rattle.cdk_synthesis.specs.Checks.{IsFaultOf, IsPassFault};
-ghost use Rattle.cdk_synthesis.specs.Passes.{at_path, here};
+ghost use Rattle.cdk_passes.specs.Faults.{IsFaultOf, IsPassFault, at_path, here};
 
 use cdk_base::{Code, Fault, Text};
 use cdk_tree::{Found, NodeId, PassError, Tree};
@@ -36,14 +35,14 @@ fn path_of(tree: &Tree, at: NodeId) -> &str
 }
 
 /// The fault that is found at a construct, or want of memory.
-pub(crate) fn fault_at(alloc: Global, tree: &Tree, found: Found) -> Fault
+pub fn fault_at(alloc: Global, tree: &Tree, found: Found) -> Fault
     ensures { IsFaultOf (Some (at_path (constructs tree.now) found)) result }
 {
     fault(alloc, found.code, path_of(tree, found.at))
 }
 
 /// The fault of a pass that ended so.
-pub(crate) fn pass_fault(alloc: Global, tree: &Tree, error: PassError) -> Fault
+pub fn pass_fault(alloc: Global, tree: &Tree, error: PassError) -> Fault
     ensures { IsPassFault (constructs tree.now) error result }
 {
     match error {
