@@ -6,7 +6,8 @@ use Rattle.cdk_base.specs.Pretty.{IsWhole, IsCanonical, ItemsAreCanonical, Membe
 use Rattle.cdk_base.proofs.Canonical.{MembersAreOrdered-put, members_depth-put}
 use Rattle.cdk_tree.specs.Placed.{Placed, construct_at, is_stack}
 use Rattle.cdk_manifest.specs.Objects.{filled, texts}
-use Rattle.cdk_manifest.specs.Manifest.{Note, Telling, artifact_entry, artifact_members, artifacts_of, element_metadata, elements_of, manifest_of, metadata_entry, metadata_key, metadata_of, nested_entry, noted, stack_entry, stack_metadata, stack_properties, tree_entry, with_generated, with_tree}
+use Rattle.cdk_objects.specs.Keys.{metadata_key}
+use Rattle.cdk_manifest.specs.Manifest.{Note, Telling, artifact_entry, artifact_members, artifacts_of, element_metadata, elements_of, manifest_of, metadata_entry, metadata_of, nested_entry, noted, stack_entry, stack_metadata, stack_properties, tree_entry, with_generated, with_tree}
 
 either_of : {A : Type 0} (P : A → Type 0) (b : Bool) (x y : A) → P x → P y → P (if b then x else y)
 either_of P true x y h g = h

@@ -1,14 +1,13 @@
 -- Objects that are filled in one walk over all constructs.
-use Rattle.std.proofs.Common.{◌≡◌, ℕ, zero, suc, ◌+◌, ◌-◌, ◌<◌, ◌≤◌, List, [], ◌∷◌, ◌++◌, length, Bool, true, false, cond, Some, String, BTreeMap, Global, refl, ap, ◌∙◌, arith}
+use Rattle.std.proofs.Common.{◌≡◌, ℕ, ◌+◌, ◌-◌, ◌<◌, ◌≤◌, List, [], ◌∷◌, length, Bool, true, false, cond, Some, String, BTreeMap, Global, refl, ap, ◌∙◌, arith}
 use Rattle.std.specs.Prelude.{filter}
 use Rattle.std.specs.List.{range_with_len}
 use Rattle.std.specs.BTreeMap.{btree_map_len}
-use Rattle.serde_json.specs.Data.{Data, Members, no_members, object, put}
+use Rattle.serde_json.specs.Data.{Data, Members, object, put}
 use Rattle.serde_json.specs.View.{members_view, view}
 use Rattle.serde_json.specs.declared.value.Value.{Value, Object}
 use Rattle.serde_json.proofs.Views.{view-Object}
 use Rattle.cdk_stacks.proofs.Tests.{range_rest}
-use Rattle.cdk_manifest.specs.Maps.{members_in}
 use Rattle.cdk_manifest.specs.Objects.{filled, put_where, unless_empty}
 
 not_empty_at : (es : List (String Global × Value)) → (length es ≡ 0 → ⊥) → Some (object (members_view es)) ≡ unless_empty (members_view es)
@@ -18,18 +17,6 @@ not_empty_at (e ∷ es) some = refl
 -- an object that has members
 pub not_empty : (m : BTreeMap (String Global) Value) → (btree_map_len m ≡ 0 → ⊥) → Some (view (Object m)) ≡ unless_empty (members_view m.entries)
 not_empty m some = ap Some (view-Object m) ∙ not_empty_at m.entries some
-
--- one more object that is empty
-pub members_in-push : (maps : List (BTreeMap (String Global) Value)) (m : BTreeMap (String Global) Value) → members_view m.entries ≡ no_members
-    → ((n : ℕ) → members_in maps n ≡ no_members) → (n : ℕ) → members_in (maps ++ m ∷ []) n ≡ no_members
-members_in-push [] m e all zero = e
-members_in-push [] m e all (suc n) = all n
-members_in-push (x ∷ maps) m e all zero = all zero
-members_in-push (x ∷ maps) m e all (suc n) = members_in-push maps m e (λ k. all (suc k)) n
-
-pub members_in-none : (n : ℕ) → members_in [] n ≡ no_members
-members_in-none zero = refl
-members_in-none (suc n) = refl
 
 module _ (name : ℕ → List ℕ) (entry : ℕ → Data) (test : ℕ → Bool) where
   -- the entries of those from a number on

@@ -10,7 +10,7 @@ use Rattle.cdk_language.specs.Construct as language
 use Rattle.cdk_language.specs.Construct.{Application, Construct, Constructs}
 use Rattle.cdk_language.specs.Expression.{Expression}
 use Rattle.cdk_tree.specs.Placed.{Placed, construct_at, constructs_of, nowhere, placed_in, root_placed, walk, walk_children}
-use Rattle.cdk_manifest.specs.Objects.{is_in}
+use Rattle.cdk_objects.specs.Keys.{is_in}
 use Rattle.cdk_manifest.specs.TreeFile.{attributes_of, id_of, node, node_of, nodes, resource_attributes, root_node}
 use Rattle.cdk_manifest.specs.Values.{attached, attached_from, value_at, AreProperties}
 

@@ -6,7 +6,8 @@ use Rattle.cdk_tree.specs.Placed.{Placed, construct_at, is_stack, is_stage}
 use Rattle.cdk_tree.specs.PlaceFindings.{is_element}
 use Rattle.cdk_stacks.specs.Names as names
 use Rattle.cdk_stacks.specs.Names.{assembly_of}
-use Rattle.cdk_manifest.specs.Objects.{filled, is_in, put_where, texts}
+use Rattle.cdk_objects.specs.Keys.{is_in, metadata_key}
+use Rattle.cdk_manifest.specs.Objects.{filled, put_where, texts}
 
 -- a note on a construct: its type (`aws:cdk:info`, `aws:cdk:warning`, `aws:cdk:error`) and its text
 pub record Note : Type 0 where
@@ -61,9 +62,6 @@ is_element_of cs stack n = is_in stack (construct_at cs n).stack && is_element (
 -- the numbers of a stack's elements, in walk order
 abbrev pub elements_of : List Placed → ℕ → List ℕ
 elements_of cs stack = filter (is_element_of cs stack) (range_with_len 0 (length cs))
-
-abbrev pub metadata_key : List Placed → ℕ → List ℕ
-metadata_key cs n = 47 ∷ (construct_at cs n).path
 
 abbrev pub element_metadata : Telling → ℕ → Data
 element_metadata t n = metadata_of (t.logical n) (t.notes n)

@@ -1,5 +1,5 @@
 -- Parts of JSON objects, and the constructs that they are made of.
-use Rattle.std.specs.Prelude.{ℕ, ◌==◌, List, [], ◌∷◌, Bool, false, if◌then◌else◌, Option, Some, None}
+use Rattle.std.specs.Prelude.{ℕ, List, [], ◌∷◌, Bool, if◌then◌else◌, Option, Some, None}
 use Rattle.serde_json.specs.Data.{Data, string, object, Items, no_items, item, Members, no_members, member, put}
 
 -- the member where it is given, before the rest
@@ -15,10 +15,6 @@ unless_empty (member k d ms) = Some (object (member k d ms))
 abbrev pub texts : List (List ℕ) → Items
 texts [] = no_items
 texts (t ∷ ts) = item (string t) (texts ts)
-
-abbrev pub is_in : ℕ → Option ℕ → Bool
-is_in stack None = false
-is_in stack (Some n) = n == stack
 
 -- the entries of constructs put in, one after another, by their names
 abbrev pub filled : (ℕ → List ℕ) → (ℕ → Data) → List ℕ → Members → Members

@@ -1,13 +1,13 @@
 -- Values that are made already, by the numbers of the constructs that they belong to, and what is made of them so far.
-use Rattle.std.specs.Prelude.{◌≡◌, ◌<◌, ℕ, ◌+◌, List, [], ◌∷◌, length, map, slice_index_or, if◌then◌else◌}
-use Rattle.serde_json.specs.Data.{Data, null, Members, put}
+use Rattle.std.specs.Prelude.{◌≡◌, ◌<◌, ℕ, ◌+◌, List, [], ◌∷◌, length, map, slice_index_or}
+use Rattle.serde_json.specs.Data.{Data, null, Members}
 use Rattle.serde_json.specs.View.{view}
 use Rattle.serde_json.specs.declared.value.Value.{Value}
 use Rattle.cdk_language.specs.Construct as language
 use Rattle.cdk_language.specs.Construct.{ResourceBody}
 use Rattle.cdk_language.specs.Expression.{Expression}
 use Rattle.cdk_tree.specs.Placed.{Placed, construct_at}
-use Rattle.cdk_manifest.specs.Objects.{is_in}
+use Rattle.cdk_objects.specs.Keys.{with_child}
 
 abbrev pub value_at : List Value → ℕ → Data
 value_at values n = slice_index_or (map view values) n null
@@ -19,7 +19,7 @@ AreProperties values value cs = (n : ℕ) (r : ResourceBody) → n < length cs �
 module _ (node : ℕ → Placed → Members → Data) where
   -- a construct's node is put into its scope's children
   abbrev pub attached : ℕ → Placed → (ℕ → Members) → ℕ → Members
-  attached n c children k = if is_in k c.parent then put c.head.id (node n c (children n)) (children k) else children k
+  attached n c children k = with_child c (node n c (children n)) children k
 
   -- those from the number n on, the last one first, so that each has its own children when it is put in
   abbrev pub attached_from : ℕ → List Placed → (ℕ → Members) → ℕ → Members

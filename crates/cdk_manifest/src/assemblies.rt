@@ -6,7 +6,6 @@ ghost use Rattle.cdk_stacks.specs.Made.{AreNamesOf};
 ghost use Rattle.cdk_manifest.specs.Manifest.{artifact_members, manifest_of, stack_metadata, telling_of, with_artifact, with_tree};
 
 use crate::kinds::is_artifact;
-use crate::maps::MapsByConstruct;
 use crate::metadata::metadata_of_stacks;
 use crate::named;
 use crate::stack_entries::{artifact_entry, tree_entry};

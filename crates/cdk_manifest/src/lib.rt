@@ -4,7 +4,6 @@
 mod assemblies;
 mod kinds;
 mod laws;
-mod maps;
 mod metadata;
 mod named;
 mod node_tree;

@@ -3,27 +3,17 @@ ghost use Rattle.std.specs.Prelude.{◌≡◌, ℕ, ◌<◌, ◌∷◌, [], leng
 ghost use Rattle.serde_json.specs.View.{view};
 ghost use Rattle.cdk_tree.specs.TreeView.{constructs};
 ghost use Rattle.cdk_stacks.specs.Made.{AreNamesOf};
-ghost use Rattle.cdk_manifest.specs.Manifest.{element_metadata, metadata_key as spec_metadata_key, metadata_of, stack_metadata, telling_of, with_element};
-ghost use Rattle.cdk_manifest.specs.Maps.{count_of, members_at};
+ghost use Rattle.cdk_manifest.specs.Manifest.{element_metadata, metadata_of, stack_metadata, telling_of, with_element};
+ghost use Rattle.cdk_objects.specs.Maps.{count_of, members_at};
 
 use crate::kinds::is_element;
-use crate::maps::MapsByConstruct;
 use crate::named;
-use cdk_base::{Text, Value};
+use cdk_base::Value;
+use cdk_objects::{MapsByConstruct, metadata_key};
 use cdk_stacks::Names;
 use cdk_tree::{NodeId, Tree};
 use serde_json::json;
 use std::alloc::{AllocError, Global};
-
-/// An element's key in the metadata: its path after a slash.
-fn metadata_key(alloc: Global, tree: &Tree, at: NodeId) -> Result<Text, AllocError>
-    requires { at < length (constructs tree.now) }
-    ensures { IfOk result (λ key. key ≡ spec_metadata_key (constructs tree.now) at) }
-{
-    let path = tree.path_of(at);
-    let key = format!(in alloc; "/{path}")?;
-    Ok(Text::from_string(key))
-}
 
 fn logical_id_entry(alloc: Global, logical: &str) -> Result<Value, AllocError>
     ensures { IfOk result (λ v. view v ≡ metadata_of logical.now []) }

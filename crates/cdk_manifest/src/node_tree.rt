@@ -6,13 +6,13 @@ ghost use Rattle.cdk_language.specs.Construct.{Application};
 ghost use Rattle.cdk_language.specs.Expression.{Expression};
 ghost use Rattle.cdk_tree.specs.Placed.{construct_at, constructs_of};
 ghost use Rattle.cdk_tree.specs.TreeView.{constructs};
-ghost use Rattle.cdk_manifest.specs.Maps.{count_of, members_at};
+ghost use Rattle.cdk_objects.specs.Maps.{count_of, members_at};
 ghost use Rattle.cdk_manifest.specs.TreeFile.{node_of, tree_document, tree_file_of};
 ghost use Rattle.cdk_manifest.specs.Values.{attached, attached_from, AreProperties};
 
-use crate::maps::MapsByConstruct;
 use crate::nodes::node;
 use cdk_base::Value;
+use cdk_objects::MapsByConstruct;
 use cdk_tree::{NodeId, Tree};
 use serde_json::json;
 use std::alloc::{AllocError, Global};
@@ -31,13 +31,9 @@ fn attach(
     ensures count { OnOk result (count_of children.new ≡ length (constructs tree.now)) }
     ensures members { OnOk result ((value : ℕ → Expression → Data) → AreProperties values.now value (constructs tree.now) → (k : ℕ) → k < at → members_at children.new k ≡ attached (node_of value) at (construct_at (constructs tree.now) at) (members_at children.old) k) }
 {
-    let Some(scope) = tree.parent(at) else {
-        return Ok(());
-    };
     let own = children.take(alloc, at);
     let node = node(alloc, tree, values, at, own)?;
-    children.put(alloc, scope, tree.node(at).id.as_str(), node)?;
-    Ok(())
+    children.put_child(alloc, tree, at, node)
 }
 
 /// The children of the root, each with its own: all constructs are put in, from the last one to the first below the root.

@@ -2,7 +2,7 @@ use Rattle.std.proofs.Common.{◌≡◌, ◌≤◌, ℕ, length}
 use Rattle.serde_json.specs.View.{members_view}
 use Rattle.cdk_tree.specs.TreeView.{constructs}
 use Rattle.cdk_manifest.specs.Manifest.{artifact_entry, artifact_members, is_artifact_of, stack_metadata, telling_of}
-use Rattle.cdk_manifest.specs.Maps.{count_of, members_at}
+use Rattle.cdk_objects.specs.Maps.{count_of, members_at}
 use Rattle.cdk_manifest.proofs.FillLemmas.{filled_from}
 use Rattle.cdk_manifest.proofs.assemblies.artifacts.Given as goal
 

@@ -2,8 +2,9 @@ use Rattle.std.proofs.Common.{◌≡◌, ◌<◌, ◌+◌, length, ap, ◌∙◌
 use Rattle.std.specs.Prelude.{nat_lt}
 use Rattle.cdk_tree.specs.TreeView.{constructs}
 use Rattle.cdk_stacks.proofs.Within.{id_is}
-use Rattle.cdk_manifest.specs.Manifest.{element_metadata, is_element_of, metadata_key, telling_of, with_element}
-use Rattle.cdk_manifest.specs.Maps.{members_at}
+use Rattle.cdk_objects.specs.Keys.{metadata_key}
+use Rattle.cdk_manifest.specs.Manifest.{element_metadata, is_element_of, telling_of, with_element}
+use Rattle.cdk_objects.specs.Maps.{members_at}
 use Rattle.cdk_manifest.proofs.FillLemmas.{filled_from, filled_from-next}
 use Rattle.cdk_manifest.proofs.metadata.metadata_of_stacks.Goals as goal
 

@@ -1,7 +1,8 @@
 use Rattle.std.proofs.Common.{◌≡◌, ℕ, length}
 use Rattle.cdk_tree.specs.TreeView.{constructs}
-use Rattle.cdk_manifest.specs.Manifest.{element_metadata, is_element_of, metadata_key, stack_metadata, telling_of}
-use Rattle.cdk_manifest.specs.Maps.{count_of, members_at}
+use Rattle.cdk_objects.specs.Keys.{metadata_key}
+use Rattle.cdk_manifest.specs.Manifest.{element_metadata, is_element_of, stack_metadata, telling_of}
+use Rattle.cdk_objects.specs.Maps.{count_of, members_at}
 use Rattle.cdk_manifest.proofs.FillLemmas.{filled_from}
 use Rattle.cdk_manifest.proofs.metadata.metadata_of_stacks.Given as goal
 

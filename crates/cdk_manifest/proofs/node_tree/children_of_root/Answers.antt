@@ -4,7 +4,7 @@ use Rattle.serde_json.specs.Data.{no_members}
 use Rattle.cdk_stacks.proofs.Within.{id_is}
 use Rattle.cdk_tree.specs.Placed.{construct_at}
 use Rattle.cdk_tree.specs.TreeView.{constructs}
-use Rattle.cdk_manifest.specs.Maps.{members_at}
+use Rattle.cdk_objects.specs.Maps.{members_at}
 use Rattle.cdk_manifest.specs.TreeFile.{node_of}
 use Rattle.cdk_manifest.specs.Values.{attached, attached_from}
 use Rattle.cdk_manifest.proofs.TreeLemmas.{attached_from-before}

@@ -2,7 +2,7 @@ use Rattle.std.proofs.Common.{◌≡◌, ◌<◌, ◌≤◌, ℕ, drop, length}
 use Rattle.serde_json.specs.Data.{Data, no_members}
 use Rattle.cdk_language.specs.Expression.{Expression}
 use Rattle.cdk_tree.specs.TreeView.{constructs}
-use Rattle.cdk_manifest.specs.Maps.{count_of, members_at}
+use Rattle.cdk_objects.specs.Maps.{count_of, members_at}
 use Rattle.cdk_manifest.specs.TreeFile.{node_of}
 use Rattle.cdk_manifest.specs.Values.{attached_from, AreProperties}
 use Rattle.cdk_manifest.proofs.node_tree.children_of_root.Given as goal

@@ -5,7 +5,7 @@ use Rattle.std.specs.declared.alloc.Global.{Global}
 use Rattle.serde_json.specs.Data.{Data, Members, no_members, put}
 use Rattle.serde_json.specs.View.{members_view}
 use Rattle.serde_json.specs.declared.value.Value.{Value}
-use Rattle.cdk_manifest.specs.declared.maps.MapsByConstruct.{MapsByConstruct}
+use Rattle.cdk_objects.specs.declared.maps.MapsByConstruct.{MapsByConstruct}
 
 abbrev pub members_in : List (BTreeMap (String Global) Value) → ℕ → Members
 members_in maps n = unwrap_or (option_map (λ m. members_view m.entries) (slice_get maps n)) no_members

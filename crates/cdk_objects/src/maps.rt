@@ -1,10 +1,13 @@
 // JSON objects that are filled beside one another.
-ghost use Rattle.std.specs.Prelude.{◌≡◌, ◌<◌, IfOk, OnOk};
+ghost use Rattle.std.specs.Prelude.{◌≡◌, ℕ, ◌<◌, length, IfOk, OnOk};
 ghost use Rattle.serde_json.specs.View.{members_view, view};
-ghost use Rattle.cdk_manifest.specs.Maps.{count_of, members_at, AreEmpty, Keeps, Puts};
+ghost use Rattle.cdk_tree.specs.Placed.{construct_at};
+ghost use Rattle.cdk_tree.specs.TreeView.{constructs};
+ghost use Rattle.cdk_objects.specs.Keys.{with_child};
+ghost use Rattle.cdk_objects.specs.Maps.{count_of, members_at, AreEmpty, Keeps, Puts};
 
 use cdk_base::{Map, Value};
-use cdk_tree::NodeId;
+use cdk_tree::{NodeId, Tree};
 use std::alloc::{AllocError, Global};
 use std::mem;
 
@@ -39,6 +42,25 @@ impl MapsByConstruct {
     {
         serde_json::put(&mut self.each[at.number()], alloc, key, value)?;
         Ok(())
+    }
+
+    /// Puts what belongs to a construct into its scope's object, by its id. The root has no scope.
+    pub fn put_child(
+        &mut self,
+        alloc: Global,
+        tree: &Tree,
+        at: NodeId,
+        value: Value,
+    ) -> Result<(), AllocError>
+        requires within { at < length (constructs tree.now) }
+        requires count { count_of self.old ≡ length (constructs tree.now) }
+        ensures count { OnOk result (count_of self.new ≡ length (constructs tree.now)) }
+        ensures members { OnOk result ((k : ℕ) → members_at self.new k ≡ with_child (construct_at (constructs tree.now) at) (view value) (members_at self.old) k) }
+    {
+        let Some(scope) = tree.parent(at) else {
+            return Ok(());
+        };
+        self.put(alloc, scope, tree.node(at).id.as_str(), value)
     }
 
     /// Takes the object of a construct; it is empty from then on.
