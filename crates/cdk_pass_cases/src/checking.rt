@@ -9,6 +9,7 @@ ghost use Rattle.cdk_tree.specs.TreeView.{constructs};
 use cdk_base::List;
 use cdk_lazies::lazy_order;
 use cdk_sizes::check_sizes;
+use cdk_targets::check_targets;
 use cdk_tokens::{Marked, Table, mark};
 use cdk_tree::{NodeId, PassError, Tree};
 use cdk_values::check_values;
@@ -19,7 +20,7 @@ pub fn marks_of(alloc: Global, tree: &Tree) -> Result<(Marked, Table), PassError
     requires { TreeIsClean (constructs tree.now) }
     ensures { IfOk result (λ all. AreMarked (constructs tree.now) (tokens_in all.1) (marked_in all.0)) }
 {
-    if let Err(found) = tree.check_targets() {
+    if let Err(found) = check_targets(tree) {
         return Err(PassError::Fault(found));
     }
     mark(alloc, tree)

@@ -21,6 +21,7 @@ use cdk_passes::{fault_at, fault_at_root, pass_fault};
 use cdk_rendered::{condition_renderings_are_own, renderings_are_own, values_fit};
 use cdk_sizes::check_sizes;
 use cdk_stacks::{Names, names};
+use cdk_targets::check_targets;
 use cdk_template::{Sources, check_counts};
 use cdk_tokens::{Marked, Table, mark};
 use cdk_tree::{NodeId, Tree, build};
@@ -128,7 +129,7 @@ pub(crate) fn files_of_tree(alloc: Global, tree: &Tree) -> Result<List<File>, Fa
     ensures answer { Answers (constructs tree.now) (tree_passes (constructs tree.now)) result }
     ensures utf8 { IfOk result AllUtf8 }
 {
-    if let Err(found) = tree.check_targets() {
+    if let Err(found) = check_targets(tree) {
         return Err(fault_at(alloc, tree, found));
     }
     let (marked, table) = match mark(alloc, tree) {

@@ -162,7 +162,7 @@ fn mark_constructs(alloc: Global, tree: &Tree) -> Result<(Marked, Table), AllocE
 /// - `LiteralMarker`: in a Concat, a run of literals holds the beginning of a marker once context values are put in.
 /// - `NoContext`: no scope has the key of a Context that has no default.
 ///
-/// Targets are not checked, as `Tree::check_targets` does: a path that no construct has stands for the root. `Memory`
+/// Targets are not checked, as `check_targets` does: a path that no construct has stands for the root. `Memory`
 /// where none is found, and for a whole number that isn't within 64 bits, which no document has.
 pub fn mark(alloc: Global, tree: &Tree) -> Result<(Marked, Table), PassError>
     ensures { Marks result (constructs tree.now) }

@@ -1,13 +1,10 @@
 pub mod EnterLemmas
 pub mod Examples
 pub mod Findings
-pub mod MarkingLemmas
 pub mod NeededLemmas
 pub mod Numbered
 pub mod PathLaw
-pub mod RefusedLemmas
 pub mod ScopeLemmas
-pub mod SettleLemmas
 pub mod SlotLemmas
 pub mod SoundLemmas
 pub mod Tests

@@ -16,7 +16,7 @@ use Rattle.cdk_language.specs.Expression as expression
 use Rattle.cdk_language.specs.Expression.{Expression}
 use Rattle.cdk_tree.specs.Lists.{is_list_body, is_list_where, list_lazies, lists_after}
 use Rattle.cdk_tree.specs.Needed.{all_needed, both_needed, finds_array, met_where, names_list, needed, needed_body}
-use Rattle.cdk_tree.specs.Needs.{is_met, met_after, AreWithin}
+use Rattle.cdk_needs.specs.Needs.{is_met, met_after, AreWithin}
 use Rattle.cdk_tree.specs.Placed.{Placed, construct_at, find_path, nowhere}
 
 is_met-where : (ms : List Bool) (b : Bool) → b ≡ is_met ms (met_where b)

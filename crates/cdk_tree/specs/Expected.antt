@@ -18,8 +18,6 @@ use Rattle.cdk_tree.specs.Placed.{Placed, construct_at, find_path, found_value, 
 use Rattle.cdk_tree.specs.declared.role.TargetRole.{TargetRole}
 use Rattle.cdk_tree.specs.declared.role.TargetRole.TheVariants as roles
 use Rattle.cdk_tree.specs.declared.role.Found.{Found}
-use Rattle.cdk_tree.specs.declared.role.Look.{Look}
-use Rattle.cdk_tree.specs.declared.role.Look.TheVariants as looks
 
 -- What is asked: a target of some role, that an expression may stand where a text must be, or where a list must be.
 pub data Expected : Type 0 where
@@ -152,12 +150,6 @@ is_wrong cs lazies in_condition scopes (target r t) =
     option_map_or (λ n. not (serves r (construct_at cs n).body) || (in_condition && is_resource (construct_at cs n).body)) (find_path cs t) false
 is_wrong cs lazies in_condition scopes (text_place e) = is_list_where cs lazies scopes e || finds_no_text scopes e
 is_wrong cs lazies in_condition scopes (list_place e) = not (is_list_where cs lazies scopes e || finds_nothing scopes e)
-
--- what is looked for
-abbrev pub refuses : List Placed → List Bool → List Members → Look → Expected → Bool
-refuses cs lazies scopes looks.Missing x = is_missing cs x
-refuses cs lazies scopes looks.Wrong x = is_wrong cs lazies false scopes x
-refuses cs lazies scopes looks.WrongInCondition x = is_wrong cs lazies true scopes x
 
 -- ---- the findings
 

@@ -5,6 +5,5 @@ pub mod Placed
 pub mod Slots
 pub mod NodesView
 pub mod Walking
-pub mod Needs
 pub mod Needed
 pub mod TreeView

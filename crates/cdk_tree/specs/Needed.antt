@@ -7,7 +7,7 @@ use Rattle.cdk_language.specs.Construct.{Body}
 use Rattle.cdk_language.specs.Expression as expression
 use Rattle.cdk_language.specs.Expression.{Expression}
 use Rattle.cdk_tree.specs.Lists.{is_array, is_list_parameter}
-use Rattle.cdk_tree.specs.Needs.{Needs}
+use Rattle.cdk_needs.specs.Needs.{Needs}
 use Rattle.cdk_tree.specs.Placed.{Placed, construct_at, find_path, found_value}
 
 -- `Ref` of the path is a list

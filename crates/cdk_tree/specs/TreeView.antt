@@ -1,16 +1,13 @@
--- The constructs of a `Tree`, and what a look at them refuses.
-use Rattle.std.specs.Prelude.{◌≡◌, ℕ, List, [], Bool, Some, Result, Ok, Err}
+-- The constructs of a `Tree`, and the first of what is found in them.
+use Rattle.std.specs.Prelude.{◌≡◌, List, [], Some, Result, Ok, Err}
 use Rattle.cdk_base.specs.declared.fault.Fault.{Fault}
 use Rattle.cdk_base.specs.declared.fault.Fault.TheVariants as faults
 use Rattle.cdk_language.specs.Construct.{Application}
-use Rattle.cdk_tree.specs.Expected.{Expected, refuses}
-use Rattle.cdk_tree.specs.Lists.{list_lazies}
 use Rattle.cdk_tree.specs.NodesView.{placed_nodes}
 use Rattle.cdk_tree.specs.PlaceFindings.{first, found_at, place_findings}
-use Rattle.cdk_tree.specs.Placed.{Placed, construct_at, constructs_of}
+use Rattle.cdk_tree.specs.Placed.{Placed, constructs_of}
 use Rattle.cdk_tree.specs.Walking.{IsSound}
 use Rattle.cdk_tree.specs.declared.role.Found.{Found}
-use Rattle.cdk_tree.specs.declared.role.Look.{Look}
 use Rattle.cdk_tree.specs.declared.tree.Tree.{Tree}
 
 abbrev pub constructs : Tree → List Placed
@@ -22,10 +19,6 @@ Builds (Ok t) a = (constructs t ≡ constructs_of a) × IsSound (constructs_of a
 Builds (Err faults.Memory) a = Unit {0}
 Builds (Err (faults.App code place)) a = first (place_findings (constructs_of a)) ≡ Some (found_at place code)
 Builds (Err (faults.Refused place name text)) a = ⊥
-
--- what is asked at a construct isn't there
-abbrev pub is_refused : Tree → Look → ℕ → Expected → Bool
-is_refused t look at x = refuses (constructs t) (list_lazies (constructs t)) (construct_at (constructs t) at).contexts look x
 
 -- nothing is found, or the first of the findings
 abbrev pub FindsFirst : Result (Unit {0}) Found → List Found → Type 0

@@ -9,11 +9,11 @@ ghost use Rattle.cdk_tree.specs.Needed.{all_needed, both_needed, finds_array as 
 ghost use Rattle.cdk_tree.specs.NodesView.{placed_nodes};
 ghost use Rattle.cdk_tree.specs.Placed.{construct_at, find_path, found_value};
 
-use crate::marking::met_needs;
 use crate::node_id::NodeId;
 use crate::nodes::Nodes;
 use cdk_base::{List, Value};
 use cdk_language::{Expr, Kind, ParameterForm};
+use cdk_needs::met_needs;
 use std::alloc::{AllocError, Global};
 
 fn is_list_parameter(kind: &Kind) -> bool

@@ -3,12 +3,10 @@ ghost use Rattle.std.specs.Prelude.{◌≡◌};
 ghost use Rattle.cdk_tree.specs.Lists.{list_lazies as spec_list_lazies};
 ghost use Rattle.cdk_tree.specs.NodesView.{placed_nodes};
 
-use crate::lists::{finds_array, list_lazies, names_list};
+use crate::lists::{finds_array, found, list_lazies, names_list};
 use crate::node_id::NodeId;
 use crate::nodes::Nodes;
 use crate::part::Part;
-use crate::role::Found;
-use crate::targets::check;
 use crate::walking::walk;
 use cdk_base::{Fault, Value};
 use cdk_language::{App, Expr};
@@ -31,11 +29,10 @@ impl Tree {
     ghost use Rattle.serde_json.specs.View.{view as json_view};
     ghost use Rattle.cdk_language.specs.Construct.{app_view, kind_view};
     ghost use Rattle.cdk_language.specs.Expression.{view};
-    ghost use Rattle.cdk_tree.specs.Expected.{target_findings};
     ghost use Rattle.cdk_tree.specs.Lists.{is_list as spec_is_list};
-    ghost use Rattle.cdk_tree.specs.Placed.{construct_at, find_path, is_stack, look_up};
+    ghost use Rattle.cdk_tree.specs.Placed.{construct_at, find_path, found_value, is_stack, look_up};
     ghost use Rattle.cdk_tree.specs.Slots.{head_of, numbered_paths};
-    ghost use Rattle.cdk_tree.specs.TreeView.{constructs, Builds, FindsFirst};
+    ghost use Rattle.cdk_tree.specs.TreeView.{constructs, Builds};
 
     /// The tree of an application, or the first thing that is wrong with its ids and places.
     pub(crate) fn of(alloc: Global, app: App) -> Result<Tree, Fault>
@@ -53,12 +50,6 @@ impl Tree {
                 Err(Fault::Memory)
             }
         }
-    }
-
-    pub(crate) fn nodes(&self) -> &Nodes
-        ensures { placed_nodes result.now ≡ constructs self.now }
-    {
-        &self.nodes
     }
 
     /// How many constructs there are, the root counted.
@@ -147,6 +138,20 @@ impl Tree {
         self.nodes.context(at, key)
     }
 
+    /// What a Context of a construct finds: the context value of its key, else its default. None exactly where it finds
+    /// nothing.
+    pub fn found<'a>(
+        &'a self,
+        at: NodeId,
+        key: &str,
+        default: &'a Option<Value>,
+    ) -> Option<&'a Value>
+        requires { at < length (constructs self.now) }
+        ensures { option_map json_view (option_copied result) ≡ found_value (construct_at (constructs self.now) at).contexts key.now (option_map json_view default.now) }
+    {
+        found(&self.nodes, at, key, default)
+    }
+
     fn is_list_lazy(&self, path: &str) -> bool
         ensures { result ≡ option_map_or (λ n. slice_index_or (spec_list_lazies (constructs self.now)) n false) (find_path (constructs self.now) path.now) false }
     {
@@ -181,18 +186,5 @@ impl Tree {
             | Expr::FindInMap(_, _, _)
             | Expr::ImportValue(_) => false,
         }
-    }
-
-    /// The first thing that is wrong with what constructs refer to, in walk order, at one construct the lowest number:
-    ///
-    /// - `NoTarget`: no construct has the path of a target.
-    /// - `WrongTarget`: a target has a wrong kind; a list, or a Context that finds an array or object, stands where a text
-    ///   must be; neither an array nor a list stands where a list must be; or a condition mentions a resource.
-    ///
-    /// Every construct is looked at, lazies that nothing uses included. A Context that finds nothing passes.
-    pub fn check_targets(&self) -> Result<(), Found>
-        ensures { FindsFirst result (target_findings (constructs self.now)) }
-    {
-        check(self)
     }
 }

@@ -1,7 +1,7 @@
 use Rattle.std.proofs.Common.{◌≡◌, length, sym, ap, subst, ◌∙◌}
 use Rattle.std.proofs.lemmas.Result.{IfOk-weaker}
 use Rattle.cdk_tree.specs.Needed.{all_needed}
-use Rattle.cdk_tree.specs.Needs.{met_after, AreWithin}
+use Rattle.cdk_needs.specs.Needs.{met_after, AreWithin}
 use Rattle.cdk_tree.specs.NodesView.{placed_nodes}
 use Rattle.cdk_tree.proofs.NeededLemmas.{list_lazies-needed, needs_within}
 use Rattle.cdk_tree.proofs.lists.list_lazies.Goals as goal
