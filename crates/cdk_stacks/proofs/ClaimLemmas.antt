@@ -1,38 +1,24 @@
 -- Claims, and the names that are taken.
 use Rattle.std.proofs.Common.{◌≡◌, ℕ, ◌+◌, List, [], ◌∷◌, ◌++◌, map, Bool, true, false, cond, Option, Some, None, refl, sym, ap, ◌∙◌}
-use Rattle.std.specs.Prelude.{◌||◌, ◌&&◌, ◌==◌}
-use Rattle.std.specs.declared.cmp.Ordering.{Ordering}
-use Rattle.std.specs.declared.cmp.Ordering.TheVariants.{Less, Equal, Greater}
+use Rattle.std.specs.Prelude.{◌||◌, ◌&&◌}
 use Rattle.std.specs.List.{list_any, range_with_len}
-use Rattle.std.specs.Ordering.{nat_cmp, is_eq, ordering_then}
-use Rattle.std.specs.Cmp.{unsigned_ties}
-use Rattle.std.specs.Cmp.Lexicographic.{slice_cmp}
 use Rattle.std.specs.Str.{bytes_eq}
-use Rattle.std.proofs.lemmas.Map.Text.{is_eq-slice_cmp}
 use Rattle.std.proofs.lemmas.Bool.{eq-eqb}
 use Rattle.std.proofs.lemmas.Slice.Eq.{bytes_eq-Decides}
 use Rattle.cdk_base.specs.declared.code.Code.{Code}
 use Rattle.cdk_base.specs.declared.code.Code.TheVariants.{BadName, SameName}
+use Rattle.cdk_claims.specs.Claims.{Claim, is_claim, is_same}
+use Rattle.cdk_claims.specs.Taken.{is_claim_taken, is_taken}
+use Rattle.cdk_claims.specs.declared.scoped.ScopedNames.{ScopedNames}
 use Rattle.cdk_tree.specs.Placed.{Placed}
 use Rattle.cdk_tree.specs.PlaceFindings.{first, when}
 use Rattle.cdk_tree.specs.declared.role.Found.{Found}
-use Rattle.cdk_stacks.specs.Claims.{Claim, artifact_claim, found_at, has_taken_name, is_claim, is_same, logical_claim, stack_claim, tree_claim}
-use Rattle.cdk_stacks.specs.Taken.{HasTaken, TakesBefore, is_claim_taken, is_taken}
-use Rattle.cdk_stacks.specs.declared.scoped.ScopedNames.{ScopedNames}
+use Rattle.cdk_stacks.specs.Claims.{artifact_claim, found_at, has_taken_name, logical_claim, stack_claim, tree_claim}
+use Rattle.cdk_stacks.specs.Taken.{HasTaken, TakesBefore}
 use Rattle.cdk_stacks.specs.declared.taken.Taken.{Taken}
 use Rattle.cdk_stacks.proofs.Tests.{any_more, any_never, any_or, or_last, or_tree}
 
--- ---- keys
-
-is_eq-then : (o p : Ordering) → is_eq (ordering_then o p) ≡ (is_eq o && is_eq p)
-is_eq-then Less p = refl
-is_eq-then Equal p = refl
-is_eq-then Greater p = refl
-
--- keys are the same where their scopes and names are
-pub same_key : (a s : ℕ) (x n : List ℕ) → is_eq (ordering_then (nat_cmp a s) (slice_cmp nat_cmp x n)) ≡ (a == s && bytes_eq x n)
-same_key a s x n =
-    is_eq-then (nat_cmp a s) (slice_cmp nat_cmp x n) ∙ ap (λ b. b && is_eq (slice_cmp nat_cmp x n)) (sym (unsigned_ties a s)) ∙ ap (λ b. a == s && b) (is_eq-slice_cmp x n)
+-- ---- claims
 
 pub same_claims : (a b : Option Claim) (s : ℕ) (x : List ℕ) → a ≡ Some (s, x) → b ≡ Some (s, x) → is_same a b ≡ true
 same_claims a b s x e f = rw (e, f) (ap (λ t. t && bytes_eq x x) (eq-eqb s s refl) ∙ (bytes_eq-Decides x x).1 refl)

@@ -5,11 +5,12 @@ use Rattle.std.specs.List.{list_any, range_with_len}
 use Rattle.std.proofs.lemmas.List.FromFn.{length-range_with_len, get_or-range_with_len}
 use Rattle.cdk_base.specs.declared.code.Code.{Code}
 use Rattle.cdk_base.specs.declared.code.Code.TheVariants.{BadName, SameName}
+use Rattle.cdk_claims.specs.Claims.{Claim, is_same}
 use Rattle.cdk_names.specs.Forms.{is_logical, is_stack_name}
 use Rattle.cdk_tree.specs.Placed.{Placed, construct_at, is_stack}
 use Rattle.cdk_tree.specs.PlaceFindings.{is_element, when}
 use Rattle.cdk_tree.specs.declared.role.Found.{Found}
-use Rattle.cdk_stacks.specs.Claims.{Claim, artifact_claim, clash, found_at, has_taken_name, is_same, logical_claim, name_findings, name_findings_of, stack_claim, tree_claim, wrong_names}
+use Rattle.cdk_stacks.specs.Claims.{artifact_claim, clash, found_at, has_taken_name, logical_claim, name_findings, name_findings_of, stack_claim, tree_claim, wrong_names}
 use Rattle.cdk_stacks.specs.Laws.{ArtifactIdsDiffer, ElementsHaveLogicalNames, LogicalNamesDiffer, NoArtifactIsTree, StackNamesDiffer, StacksHaveNames}
 use Rattle.cdk_stacks.specs.Names.{artifact_id, assembly_of, is_artifact_id, is_element_misnamed, is_misnamed, is_some_and, is_stack_misnamed, is_stage_misnamed, logical_name, stack_name}
 use Rattle.cdk_stacks.proofs.ClaimLemmas.{same_claims}

@@ -1,27 +1,14 @@
 -- Which names must be one construct's alone, and what is wrong with the names of an application (AWS CDK's check of logical ids; that
 -- stack names differ in the whole application, and that the tree file's artifact takes `Tree`, are own).
-use Rattle.std.specs.Prelude.{ℕ, ◌==◌, ◌||◌, ◌&&◌, List, [], ◌∷◌, ◌++◌, Bool, false, Option, Some, None, option_map, option_and_then, codes, length, map}
+use Rattle.std.specs.Prelude.{ℕ, ◌||◌, List, [], ◌∷◌, ◌++◌, Bool, Option, Some, option_map, option_and_then, codes, length, map}
 use Rattle.std.specs.List.{list_any, range_with_len}
-use Rattle.std.specs.Str.{bytes_eq}
 use Rattle.cdk_base.specs.declared.code.Code.{Code}
 use Rattle.cdk_base.specs.declared.code.Code.TheVariants.{BadName, SameName}
+use Rattle.cdk_claims.specs.Claims.{Claim, is_same}
 use Rattle.cdk_tree.specs.Placed.{Placed, construct_at}
 use Rattle.cdk_tree.specs.PlaceFindings.{when}
 use Rattle.cdk_tree.specs.declared.role.Found.{Found}
 use Rattle.cdk_stacks.specs.Names.{artifact_id, assembly_of, is_misnamed, logical_name, stack_name}
-
--- A claim is a name and the number of the scope in which it is to be one construct's alone.
-abbrev pub Claim : Type 0
-Claim = ℕ × List ℕ
-
--- it is the claim of the name in the scope
-abbrev pub is_claim : Option Claim → ℕ → List ℕ → Bool
-is_claim None scope name = false
-is_claim (Some c) scope name = c.0 == scope && bytes_eq c.1 name
-
-abbrev pub is_same : Option Claim → Option Claim → Bool
-is_same a None = false
-is_same a (Some c) = is_claim a c.0 c.1
 
 -- an element claims its logical name in its stack
 abbrev pub logical_claim : List Placed → ℕ → Option Claim

@@ -8,7 +8,6 @@ mod kinds;
 mod laws;
 mod made;
 mod named;
-mod scoped;
 mod staged;
 mod taken;
 

@@ -5,13 +5,14 @@ ghost use Rattle.cdk_tree.specs.PlaceFindings.{first};
 ghost use Rattle.cdk_tree.specs.TreeView.{constructs};
 ghost use Rattle.cdk_stacks.specs.Claims.{artifact_claim as spec_artifact_claim, has_taken_name, logical_claim as spec_logical_claim, stack_claim as spec_stack_claim, wrong_names};
 ghost use Rattle.cdk_stacks.specs.Made.{AreNamesOf};
-ghost use Rattle.cdk_stacks.specs.Taken.{claim_view, HasTaken};
+ghost use Rattle.cdk_claims.specs.Taken.{claim_view};
+ghost use Rattle.cdk_stacks.specs.Taken.{HasTaken};
 
 use crate::forms::is_misnamed;
 use crate::made::Names;
-use crate::scoped::{Claim, ScopedNames};
 use crate::staged::assembly_of;
 use cdk_base::Code;
+use cdk_claims::{Claim, ScopedNames};
 use cdk_tree::{NodeId, Tree};
 use std::alloc::{AllocError, Global};
 

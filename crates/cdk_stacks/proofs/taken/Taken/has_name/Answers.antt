@@ -1,8 +1,8 @@
 use Rattle.std.proofs.Common.{◌≡◌, true, false, sym, ap, ◌∙◌}
 use Rattle.std.specs.Prelude.{◌||◌}
+use Rattle.cdk_claims.specs.Taken.{is_claim_taken}
 use Rattle.cdk_tree.specs.TreeView.{constructs}
 use Rattle.cdk_stacks.specs.Claims.{artifact_claim, logical_claim, stack_claim}
-use Rattle.cdk_stacks.specs.Taken.{is_claim_taken}
 use Rattle.cdk_stacks.proofs.ClaimLemmas.{taken_names}
 use Rattle.cdk_stacks.proofs.taken.Taken.has_name.Goals as goal
 

@@ -1,10 +1,10 @@
 use Rattle.std.proofs.Common.{◌≡◌, ℕ, List, Bool, true, false, cond, Option, Some, Bor, refl, sym, ap, ◌∙◌}
 use Rattle.std.specs.Prelude.{◌||◌, is_some, option_map}
 use Rattle.std.specs.Ordering.{is_eq}
-use Rattle.cdk_stacks.specs.Claims.{is_claim}
-use Rattle.cdk_stacks.specs.Taken.{claim_view, is_taken, key_cmp}
-use Rattle.cdk_stacks.proofs.ClaimLemmas.{same_key}
-use Rattle.cdk_stacks.proofs.scoped.ScopedNames.put.Goals as goal
+use Rattle.cdk_claims.specs.Claims.{is_claim}
+use Rattle.cdk_claims.specs.Taken.{claim_view, is_taken, key_cmp}
+use Rattle.cdk_claims.proofs.KeyLemmas.{same_key}
+use Rattle.cdk_claims.proofs.scoped.ScopedNames.put.Goals as goal
 
 either : {X : Type 0} (b : Bool) (x : X) (o : Option X) → is_some (cond b (Some x) o) ≡ (b || is_some o)
 either true x o = refl

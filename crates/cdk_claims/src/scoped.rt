@@ -1,7 +1,7 @@
 // Names that are taken, each in a scope.
 ghost use Rattle.std.specs.Prelude.{◌≡◌, ◌||◌, ℕ, List, false, OnOk, option_map};
-ghost use Rattle.cdk_stacks.specs.Claims.{is_claim};
-ghost use Rattle.cdk_stacks.specs.Taken.{claim_view, is_claim_taken, is_taken};
+ghost use Rattle.cdk_claims.specs.Claims.{is_claim};
+ghost use Rattle.cdk_claims.specs.Taken.{claim_view, is_claim_taken, is_taken};
 
 use std::alloc::{AllocError, Global};
 use std::collections::BTreeMap;
