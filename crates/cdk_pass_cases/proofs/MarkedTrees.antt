@@ -5,8 +5,8 @@ use Rattle.std.specs.Prelude.{Result, Ok, Err, IfOk}
 use Rattle.cdk_expansion.specs.Clean.{TreeIsClean}
 use Rattle.cdk_expansion.specs.Laws.{IsSound}
 use Rattle.cdk_lazies.specs.LazyOrder.{IsLazyOrder}
+use Rattle.cdk_leaves.specs.Ready.{IsReady}
 use Rattle.cdk_pass_cases.specs.Marked.{AreMarked}
-use Rattle.cdk_resolve.specs.Ready.{IsReady}
 use Rattle.cdk_sizes.specs.Ordered.{SuitsLazies}
 use Rattle.cdk_suited.proofs.SuitedOrders.{lazy_orders_are_ready, lazy_orders_suit}
 use Rattle.cdk_tokens.specs.Marks.{Marks}

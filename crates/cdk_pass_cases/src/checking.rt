@@ -1,8 +1,8 @@
 // The passes over a tree up to the check of sizes.
 ghost use Rattle.std.specs.Prelude.{IfOk};
 ghost use Rattle.cdk_expansion.specs.Clean.{TreeIsClean};
+ghost use Rattle.cdk_leaves.specs.Ready.{IsReady};
 ghost use Rattle.cdk_pass_cases.specs.Marked.{AreMarked};
-ghost use Rattle.cdk_resolve.specs.Ready.{IsReady};
 ghost use Rattle.cdk_tokens.specs.TableView.{marked_in, tokens_in};
 ghost use Rattle.cdk_tree.specs.TreeView.{constructs};
 

@@ -1,8 +1,8 @@
 // Values and conditions as the template of their stack holds them.
 ghost use Rattle.std.specs.Prelude.{◌≡◌, ◌<◌, length, true};
 ghost use Rattle.cdk_expansion.specs.Clean.{TreeIsClean};
+ghost use Rattle.cdk_leaves.specs.Ready.{IsReady};
 ghost use Rattle.cdk_pass_cases.specs.Marked.{AreMarked};
-ghost use Rattle.cdk_resolve.specs.Ready.{IsReady};
 ghost use Rattle.cdk_tokens.specs.TableView.{marked_in, tokens_in};
 ghost use Rattle.cdk_tree.specs.Expected.{is_condition};
 ghost use Rattle.cdk_tree.specs.Placed.{construct_at};

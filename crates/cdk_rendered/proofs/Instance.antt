@@ -10,20 +10,21 @@ use Rattle.cdk_elements.specs.Elements.{own_condition, own_homes, own_value}
 use Rattle.cdk_expansion.specs.Clean.{TreeIsClean}
 use Rattle.cdk_expansion.specs.Laws.{IsSound}
 use Rattle.cdk_graphs.specs.Loops.{LoopsAreFound}
+use Rattle.cdk_keeping.specs.Keeping.{IsRendering}
 use Rattle.cdk_language.specs.Application.{application_of}
 use Rattle.cdk_language.specs.Condition as condition
 use Rattle.cdk_language.specs.Condition.{Condition}
 use Rattle.cdk_language.specs.Construct.{Application, child, condition_body, Construct, construct, Head, lazy, no_constructs, resource, root, stack}
 use Rattle.cdk_language.specs.Expression as expression
 use Rattle.cdk_language.specs.Expression.{Expression}
+use Rattle.cdk_leaves.specs.Ready.{scope_of}
 use Rattle.cdk_plain.specs.Plain as plain
 use Rattle.cdk_plain.specs.Plain.{field, join, list_of, no_fields, no_plains, object_of, Plain, ref}
 use Rattle.cdk_plain.specs.Rendered.{Homes, ImportList, one, rendered, rendered_condition, two}
 use Rattle.cdk_rendered.proofs.CheckedDepths.{values_fit}
 use Rattle.cdk_rendered.proofs.Renderings.{condition_renderings_are_own, renderings_are_own}
 use Rattle.cdk_rendered.specs.Laws.{HasNoCycle}
-use Rattle.cdk_resolve.specs.Keeping.{IsConditionRendering, IsRendering}
-use Rattle.cdk_resolve.specs.Ready.{scope_of}
+use Rattle.cdk_resolve.specs.Conditions.{IsConditionRendering}
 use Rattle.cdk_sizes.specs.Size.{condition_depth, depth}
 use Rattle.cdk_sizes.specs.SizeFindings.{size_findings}
 use Rattle.cdk_tokens.specs.Contexts.{context_findings}

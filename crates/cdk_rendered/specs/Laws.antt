@@ -6,16 +6,17 @@ use Rattle.cdk_elements.specs.Elements.{own_condition, own_value}
 use Rattle.cdk_expansion.specs.Conditions.{condition_of, condition_plain}
 use Rattle.cdk_expansion.specs.Laws.{IsSound}
 use Rattle.cdk_expansion.specs.Own.{own_of, value_in}
+use Rattle.cdk_keeping.specs.Keeping.{IsRendering}
 use Rattle.cdk_language.specs.Condition.{Condition}
 use Rattle.cdk_language.specs.Construct as language
 use Rattle.cdk_language.specs.Construct.{Body}
 use Rattle.cdk_language.specs.Expression.{Expression}
 use Rattle.cdk_lazies.specs.CycleFindings.{cycle_findings}
+use Rattle.cdk_leaves.specs.Ready.{Scope}
 use Rattle.cdk_plain.specs.Plain as plain
 use Rattle.cdk_plain.specs.Plain.{Plain}
 use Rattle.cdk_plain.specs.Rendered.{Homes, rendered, rendered_condition}
-use Rattle.cdk_resolve.specs.Keeping.{IsConditionRendering, IsRendering}
-use Rattle.cdk_resolve.specs.Ready.{Scope}
+use Rattle.cdk_resolve.specs.Conditions.{IsConditionRendering}
 use Rattle.cdk_sizes.specs.Size.{condition_depth, depth}
 use Rattle.cdk_sizes.specs.SizeFindings.{greatest_depth, lazy_count, size_findings}
 use Rattle.cdk_tokens.specs.Whole.{marking, tokens_of, value_at}

@@ -1,9 +1,9 @@
 -- What a `Kept` stands for.
-use Rattle.cdk_resolve.specs.Keeping.{IsSettled}
-use Rattle.cdk_resolve.specs.Kept.{results_in}
-use Rattle.cdk_resolve.specs.Missing.{Results}
-use Rattle.cdk_resolve.specs.Ready.{IsReady, Scope}
-use Rattle.cdk_resolve.specs.Views.{scope_view}
+use Rattle.cdk_keeping.specs.Keeping.{IsSettled}
+use Rattle.cdk_leaves.specs.Kept.{results_in}
+use Rattle.cdk_leaves.specs.Lazies.{Results}
+use Rattle.cdk_leaves.specs.Ready.{IsReady, Scope}
+use Rattle.cdk_leaves.specs.Views.{scope_view}
 use Rattle.cdk_resolve.specs.declared.kept.Kept.{Kept}
 
 abbrev pub kept_scope : Kept → Scope

@@ -1,10 +1,2 @@
-pub mod Folding
-pub mod TokenJson
-pub mod Missing
-pub mod Ready
-pub mod Keeping
-pub mod Views
-pub mod Slots
-pub mod Kept
-pub mod Steps
+pub mod Conditions
 pub mod KeptView

@@ -1,11 +1,10 @@
 // Values of one stack as its template holds them, with one kept result a lazy.
 use crate::conditions::resolved_condition;
-use crate::keeping::resolved;
-use crate::results::Results;
-use crate::scope::Scope;
 use cdk_base::{List, Value};
 use cdk_homes::Homes;
+use cdk_keeping::resolved;
 use cdk_language::Kind;
+use cdk_leaves::{Results, Scope};
 use cdk_tokens::{Marked, Table};
 use cdk_tree::{NodeId, Tree};
 use std::alloc::{AllocError, Global};
@@ -22,9 +21,11 @@ impl<'a> Kept<'a> {
     ghost use Rattle.std.specs.Prelude.{◌≡◌, ◌<◌, ℕ, length, true, None, option_map, IfOk, OnOk};
     ghost use Rattle.serde_json.specs.View.{view};
     ghost use Rattle.cdk_homes.specs.Kept.{entries_in};
-    ghost use Rattle.cdk_resolve.specs.Keeping.{IsBodyRendering, IsRendering, KeepsReached, Stays};
+    ghost use Rattle.cdk_keeping.specs.Keeping.{IsRendering, KeepsReached};
+    ghost use Rattle.cdk_leaves.specs.Lazies.{Stays};
+    ghost use Rattle.cdk_leaves.specs.Ready.{IsReady};
+    ghost use Rattle.cdk_resolve.specs.Conditions.{IsBodyRendering};
     ghost use Rattle.cdk_resolve.specs.KeptView.{IsRight, kept_results, kept_scope};
-    ghost use Rattle.cdk_resolve.specs.Ready.{IsReady};
     ghost use Rattle.cdk_spelling.specs.Spelled.{homes_for};
     ghost use Rattle.cdk_tokens.specs.TableView.{marked_in, tokens_in};
     ghost use Rattle.cdk_tree.specs.Expected.{is_condition};

@@ -2,12 +2,8 @@
 #![tactic(auto)]
 
 mod conditions;
-mod keeping;
 mod kept;
-mod rendering;
 mod resolving;
-mod results;
-mod scope;
 
 pub use kept::Kept;
 pub use resolving::{resolve, resolve_condition};

@@ -14,7 +14,7 @@ use Rattle.cdk_language.specs.Application.{application_of}
 use Rattle.cdk_language.specs.Construct.{Application, child, Construct, construct, Head, lazy, no_constructs, resource, root, stack}
 use Rattle.cdk_language.specs.Expression as expression
 use Rattle.cdk_lazies.specs.LazyOrder.{IsHeld, IsLazy, IsLazyOrder}
-use Rattle.cdk_resolve.specs.Ready.{IsReady}
+use Rattle.cdk_leaves.specs.Ready.{IsReady}
 use Rattle.cdk_sizes.specs.Ordered.{SuitsLazies}
 use Rattle.cdk_suited.proofs.SuitedOrders.{lazy_orders_are_ready, lazy_orders_suit}
 use Rattle.cdk_tokens.specs.Contexts.{context_findings}

@@ -10,13 +10,13 @@ use Rattle.cdk_language.specs.Condition.{Condition}
 use Rattle.cdk_language.specs.Construct.{Body, condition_body}
 use Rattle.cdk_language.specs.Expression.{Expression}
 use Rattle.cdk_lazies.specs.CycleFindings.{cycle_findings}
+use Rattle.cdk_leaves.specs.Ready.{Scope, scope_of}
 use Rattle.cdk_local_homes.proofs.LocalRenders.{local_homes_render, local_homes_render_conditions}
 use Rattle.cdk_local_homes.specs.Local.{AreLocal}
 use Rattle.cdk_plain.specs.Rendered.{rendered, rendered_condition}
 use Rattle.cdk_rendered.proofs.OwnForms.{condition_forms_are_own}
 use Rattle.cdk_rendered.specs.Laws.{ConditionRenderingsAreOwn, IsScopeOf, RenderingsAreOwn}
-use Rattle.cdk_resolve.specs.Keeping.{IsBodyRendering}
-use Rattle.cdk_resolve.specs.Ready.{Scope, scope_of}
+use Rattle.cdk_resolve.specs.Conditions.{IsBodyRendering}
 use Rattle.cdk_spelling.specs.Spelled.{homes_for}
 use Rattle.cdk_template.specs.Sources.{SpellsOwn}
 use Rattle.cdk_tokens.specs.Token.{Token}

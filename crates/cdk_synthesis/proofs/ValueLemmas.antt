@@ -8,9 +8,9 @@ use Rattle.cdk_expansion.specs.Own.{value_in}
 use Rattle.cdk_language.specs.Construct as language
 use Rattle.cdk_language.specs.Construct.{Body, ResourceBody}
 use Rattle.cdk_language.specs.Expression.{Expression}
+use Rattle.cdk_leaves.specs.Ready.{Scope}
 use Rattle.cdk_manifest.specs.Values.{value_at}
 use Rattle.cdk_resolve.specs.KeptView.{IsRight, kept_scope}
-use Rattle.cdk_resolve.specs.Ready.{Scope}
 use Rattle.cdk_resolve.specs.declared.kept.Kept.{Kept}
 use Rattle.cdk_template.specs.Own.{spelling_of}
 use Rattle.cdk_template.specs.Sources.{RendersOwn, SpellsOwn}

@@ -3,11 +3,11 @@ use Rattle.std.proofs.Common.{◌≡◌, ℕ, zero, suc, ◌+◌, List, [], ◌�
 use Rattle.std.specs.Prelude.{is_some, option_and_then, option_map, slice_get}
 use Rattle.serde_json.specs.Data.{Data}
 use Rattle.cdk_expansion.specs.Own.{value_in}
+use Rattle.cdk_keeping.specs.Keeping.{IsRendering}
 use Rattle.cdk_language.specs.Construct as language
 use Rattle.cdk_language.specs.Construct.{Body}
 use Rattle.cdk_language.specs.Expression.{Expression}
-use Rattle.cdk_resolve.specs.Keeping.{IsRendering}
-use Rattle.cdk_resolve.specs.Ready.{Scope}
+use Rattle.cdk_leaves.specs.Ready.{Scope}
 use Rattle.cdk_template.specs.Own.{spelling_of}
 use Rattle.cdk_template.specs.Sources.{SpellsOwn}
 use Rattle.cdk_tokens.specs.Whole as whole

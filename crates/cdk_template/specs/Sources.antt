@@ -4,13 +4,14 @@ use Rattle.serde_json.specs.Data.{Data}
 use Rattle.cdk_elements.specs.Elements.{own_condition, own_homes, own_value}
 use Rattle.cdk_expansion.specs.Own.{value_in}
 use Rattle.cdk_homes.specs.Kept.{entries_in}
+use Rattle.cdk_keeping.specs.Keeping.{IsRendering}
 use Rattle.cdk_language.specs.Condition.{Condition}
 use Rattle.cdk_language.specs.Construct.{condition_body}
 use Rattle.cdk_language.specs.Expression.{Expression}
+use Rattle.cdk_leaves.specs.Ready.{IsReady, Scope, scope_of}
 use Rattle.cdk_plain.specs.Rendered.{rendered, rendered_condition}
-use Rattle.cdk_resolve.specs.Keeping.{IsBodyRendering, IsRendering}
+use Rattle.cdk_resolve.specs.Conditions.{IsBodyRendering}
 use Rattle.cdk_resolve.specs.KeptView.{IsRight, kept_scope}
-use Rattle.cdk_resolve.specs.Ready.{IsReady, Scope, scope_of}
 use Rattle.cdk_resolve.specs.declared.kept.Kept.{Kept}
 use Rattle.cdk_spelling.specs.Spelled.{homes_for}
 use Rattle.cdk_stacks.specs.Made.{AreNamesOf}

@@ -3,17 +3,17 @@ use Rattle.std.proofs.lemmas.List.{drop_all, drop_more}
 use Rattle.serde_json.specs.Data.{array}
 use Rattle.serde_json.specs.View.{items_view}
 use Rattle.cdk_expansion.specs.Conditions.{condition_plain, conditions_plain, operand_plain}
+use Rattle.cdk_keeping.proofs.MoreKept.{stays_further}
+use Rattle.cdk_keeping.proofs.OnlyLazy.{if_ok}
 use Rattle.cdk_language.specs.Condition as condition
 use Rattle.cdk_language.specs.Condition.{conditions_view, view as condition_view}
 use Rattle.cdk_language.specs.Expression.{view}
 use Rattle.cdk_language.specs.declared.condition.Cond.{And, Cond, Equals, Or, the_lemmas}
 use Rattle.cdk_language.specs.declared.expression.Expr.{Expr}
+use Rattle.cdk_leaves.specs.Kept.{results_in}
+use Rattle.cdk_leaves.specs.Views.{scope_view}
 use Rattle.cdk_plain.specs.Rendered.{and_items, one, rendered_condition, rendered_conditions}
-use Rattle.cdk_resolve.proofs.MoreKept.{stays_further}
-use Rattle.cdk_resolve.proofs.OnlyLazy.{if_ok}
 use Rattle.cdk_resolve.proofs.PartsLaid.{condition_counted, condition_laid, none_more, part_laid}
-use Rattle.cdk_resolve.specs.Kept.{results_in}
-use Rattle.cdk_resolve.specs.Views.{scope_view}
 use Rattle.cdk_tokens.specs.Whole.{operands_of, operands_of_all}
 use Rattle.cdk_tree.specs.TreeView.{constructs}
 use Rattle.cdk_resolve.proofs.conditions.+conditions.Goals as goal

@@ -1,11 +1,12 @@
 use Rattle.std.proofs.Common.{◌≡◌, ◌≤◌, ◌+◌, ℕ, drop, length}
 use Rattle.serde_json.specs.View.{items_view}
 use Rattle.cdk_expansion.specs.Conditions.{conditions_plain, operand_plain}
+use Rattle.cdk_keeping.specs.Keeping.{IsSettled}
 use Rattle.cdk_language.specs.Condition.{conditions_view}
+use Rattle.cdk_leaves.specs.Kept.{results_in}
+use Rattle.cdk_leaves.specs.Lazies.{Stays}
+use Rattle.cdk_leaves.specs.Views.{scope_view}
 use Rattle.cdk_plain.specs.Rendered.{and_items, rendered_conditions}
-use Rattle.cdk_resolve.specs.Keeping.{IsSettled, Stays}
-use Rattle.cdk_resolve.specs.Kept.{results_in}
-use Rattle.cdk_resolve.specs.Views.{scope_view}
 use Rattle.cdk_tokens.specs.Whole.{operands_of_all}
 use Rattle.cdk_tree.specs.TreeView.{constructs}
 use Rattle.cdk_resolve.proofs.conditions.+conditions.Given as goal

@@ -1,12 +1,12 @@
 use Rattle.std.proofs.Common.{◌≡◌, ◌+◌, ap, ap₂, ◌∙◌, arith}
 use Rattle.std.proofs.lemmas.Result.{IfOk-weaker}
 use Rattle.cdk_expansion.specs.Conditions.{operand_plain}
+use Rattle.cdk_keeping.proofs.MoreKept.{stays_further}
+use Rattle.cdk_keeping.proofs.OnlyLazy.{if_ok}
+use Rattle.cdk_leaves.specs.Kept.{results_in}
+use Rattle.cdk_leaves.specs.Views.{scope_view}
 use Rattle.cdk_plain.specs.Rendered.{rendered}
-use Rattle.cdk_resolve.proofs.MoreKept.{stays_further}
-use Rattle.cdk_resolve.proofs.OnlyLazy.{if_ok}
-use Rattle.cdk_resolve.specs.Keeping.{equals_in}
-use Rattle.cdk_resolve.specs.Kept.{results_in}
-use Rattle.cdk_resolve.specs.Views.{scope_view}
+use Rattle.cdk_resolve.specs.Conditions.{equals_in}
 use Rattle.cdk_resolve.proofs.conditions.equals_json.Goals as goal
 
 pub returns-clause-value : goal.returns-clause-value

@@ -3,7 +3,7 @@ use Rattle.std.specs.Prelude.{is_some, option_map}
 use Rattle.std.proofs.lemmas.Result.{IfOk-weaker}
 use Rattle.serde_json.specs.View.{view}
 use Rattle.cdk_expansion.specs.Own.{value_in}
-use Rattle.cdk_resolve.specs.Keeping.{IsRendering}
+use Rattle.cdk_keeping.specs.Keeping.{IsRendering}
 use Rattle.cdk_resolve.specs.KeptView.{kept_scope}
 use Rattle.cdk_tokens.specs.TableView.{marked_in}
 use Rattle.cdk_tokens.specs.Whole.{marking, value_at}

@@ -1,0 +1,10 @@
+pub mod Examples
+pub mod FormsLaid
+pub mod Laying
+pub mod MissingFound
+pub mod MissingKeys
+pub mod MissingMentions
+pub mod Places
+pub mod RenderedForms
+pub mod TokenFound
+pub mod Weights

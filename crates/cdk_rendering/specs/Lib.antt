@@ -1,0 +1,4 @@
+pub mod Folding
+pub mod TokenJson
+pub mod Missing
+pub mod Views
