@@ -10,8 +10,10 @@ ghost use Rattle.cdk_language.specs.Schema.{kind_in as spec_kind_in, needed_memb
 ghost use Rattle.cdk_findings.specs.Arguments.{argument_role as spec_argument_role};
 
 use cdk_base::Map;
-use cdk_language::{Frame, KindName, Role, Schema, Within, is_variable_name};
-use cdk_members::{FormName, form_named, has_form_key, is_form_key, kind_named, text_at};
+use cdk_language::{Frame, KindName, Role, Schema, Within};
+use cdk_members::{
+    FormName, form_named, has_form_key, is_form_key, is_variable_name, kind_named, text_at,
+};
 
 /// The kind that a construct's `kind` names.
 pub fn kind_in(members: &Map) -> Option<KindName>

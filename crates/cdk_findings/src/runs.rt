@@ -7,14 +7,16 @@ ghost use Rattle.cdk_language.specs.Findings.{is_marked_form as spec_is_marked_f
 ghost use Rattle.cdk_language.specs.Runs.{no_literal, literals_of, form_literals, concat_literals, items_literals, substituted_literals, sub_literals, piece_literals, variables_literals};
 ghost use Rattle.cdk_language.specs.Schema.{is_wrong_sub_text as spec_is_wrong_sub_text};
 ghost use Rattle.cdk_language.specs.Sub.{pieces_of, literal};
-ghost use Rattle.cdk_language.specs.SubView.{piece_view};
+ghost use Rattle.cdk_members.specs.SubView.{piece_view};
 ghost use Rattle.cdk_language.specs.declared.schema.Within.TheVariants as within;
 ghost use Rattle.cdk_findings.specs.Reads.{Reads, step as spec_step};
 
 use crate::texts::is_wrong_sub_text;
 use cdk_base::{Map, Value};
-use cdk_language::{FirstPiece, Role, SubPiece, Within, first_piece, is_variable_name};
-use cdk_members::{member, only_member, two_of};
+use cdk_language::{Role, Within};
+use cdk_members::{
+    FirstPiece, SubPiece, first_piece, is_variable_name, member, only_member, two_of,
+};
 use std::alloc::AllocError;
 
 /// How many bytes of `${Token[` or `#{Token[` the end of the run matches: 8 where the run holds one.

@@ -10,8 +10,8 @@ use crate::texts::{
     is_export_name, is_filled, is_parameter_type, is_policy_name, is_schema_name, is_wrong_sub_text,
 };
 use cdk_base::{Map, Value};
-use cdk_language::{Role, Within, is_attribute};
-use cdk_members::{has_form_key, lacks};
+use cdk_language::{Role, Within};
+use cdk_members::{has_form_key, is_attribute, lacks};
 use serde_json::Number;
 
 fn is_null(value: &Value) -> bool

@@ -1,9 +1,10 @@
 // What a text has to be in its place.
 ghost use Rattle.std.specs.Prelude.{◌≡◌, ◌≤◌, count_by, length};
 ghost use Rattle.cdk_language.specs.Schema.{begins_character as spec_begins_character, is_export_name as spec_is_export_name, is_filled as spec_is_filled, is_parameter_type as spec_is_parameter_type, is_policy_name as spec_is_policy_name, is_schema_name as spec_is_schema_name, is_wrong_sub_text as spec_is_wrong_sub_text, is_barred_piece as spec_is_barred_piece};
-ghost use Rattle.cdk_language.specs.SubView.{piece_view};
+ghost use Rattle.cdk_members.specs.SubView.{piece_view};
 
-use cdk_language::{FirstPiece, SubPiece, Within, first_piece};
+use cdk_language::Within;
+use cdk_members::{FirstPiece, SubPiece, first_piece};
 
 pub fn is_filled(text: &str) -> bool
     ensures { result ≡ spec_is_filled text.now }

@@ -1,4 +1,3 @@
-pub mod Around
 mod Examples
 mod Faults
 pub mod Pieces

@@ -6,4 +6,3 @@ pub mod Findings
 pub mod Runs
 pub mod Schema
 pub mod Sub
-pub mod SubView

@@ -6,11 +6,9 @@ mod construct;
 mod expression;
 mod finding;
 mod schema;
-mod sub;
 
 pub use condition::Cond;
 pub use construct::{App, Entry, Kind, Node, Output, Parameter, ParameterForm, Policy, Resource};
 pub use expression::{Expr, Field, Pseudo};
 pub use finding::Finding;
 pub use schema::{Frame, KindName, Role, Schema, Within};
-pub use sub::{FirstPiece, SubPiece, first_piece, is_attribute, is_variable_name};

@@ -2,5 +2,7 @@
 #![tactic(auto)]
 
 mod faults;
+mod values;
 
 pub use faults::{fault_at, fault_at_root, pass_fault};
+pub use values::check_values_and_sizes;

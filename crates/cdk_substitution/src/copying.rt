@@ -2,10 +2,11 @@
 ghost use Rattle.std.specs.Prelude.{◌≡◌, ◌+◌, IfOk, OnOk, OnErr};
 ghost use Rattle.std.specs.Prelude.{option_map};
 ghost use Rattle.serde_json.specs.View.{view as json_view};
-ghost use Rattle.cdk_language.specs.Expression.{view, expressions_view, fields_view, context, get_att};
+ghost use Rattle.cdk_language.specs.Expression.{view, expressions_view, fields_view, context};
 
 use cdk_base::{List, Text, Value};
 use cdk_language::{Expr, Field};
+use cdk_members::attribute_of;
 use std::alloc::{AllocError, Global};
 
 /// How many expressions may still be put in. Variables may double what they hold at each level, so that a small
@@ -39,14 +40,6 @@ impl Copies {
     }
 }
 
-fn copy_attribute(alloc: Global, target: &Text, attribute: &Text) -> Result<Expr, AllocError>
-    ensures { IfOk result (λ copied. view copied ≡ get_att target.now attribute.now) }
-{
-    let target = Text::new(alloc, target.as_str())?;
-    let attribute = Text::new(alloc, attribute.as_str())?;
-    Ok(Expr::GetAtt(target, attribute))
-}
-
 fn copy_context(alloc: Global, key: &Text, default: &Option<Value>) -> Result<Expr, AllocError>
     ensures { IfOk result (λ copied. view copied ≡ context key.now (option_map json_view default.now)) }
 {
@@ -72,7 +65,7 @@ pub fn copy_of(alloc: Global, copies: &mut Copies, e: &Expr) -> Result<Expr, All
         Expr::Object(fields) => Ok(Expr::Object(copy_fields(alloc, copies, fields)?)),
         Expr::Pseudo(p) => Ok(Expr::Pseudo(*p)),
         Expr::Ref(t) => Ok(Expr::Ref(Text::new(alloc, t.as_str())?)),
-        Expr::GetAtt(t, a) => copy_attribute(alloc, t, a),
+        Expr::GetAtt(t, a) => attribute_of(alloc, t.as_str(), a.as_str()),
         Expr::Concat(items) => Ok(Expr::Concat(copy_items(alloc, copies, items)?)),
         Expr::Join(d, l) => {
             let (delimiter, list) = copy_argument(alloc, copies, d, l)?;

@@ -3,15 +3,15 @@ ghost use Rattle.std.specs.Prelude.{◌≡◌, IfOk, OnOk};
 ghost use Rattle.std.specs.Option.{unwrap_or};
 ghost use Rattle.cdk_language.specs.Application.{pseudo_of as pseudo_in, ref_of as reference_in, sub_of as substituted_in};
 ghost use Rattle.cdk_language.specs.Expression.{Expressions, Fields, fields_view, view};
-ghost use Rattle.cdk_language.specs.SubView.{piece_view};
+ghost use Rattle.cdk_members.specs.SubView.{piece_view};
 ghost use Rattle.cdk_members.specs.Gives.{Gives};
 ghost use Rattle.cdk_substitution.specs.Steps.{before, literal_then, variable_in, Have, piece_expression, piece_then};
 
 use crate::copying::{Copies, copy_of};
 use crate::variables::Variables;
 use cdk_base::{List, Text};
-use cdk_language::{Expr, Field, FirstPiece, Pseudo, SubPiece, first_piece};
-use cdk_members::ReadError;
+use cdk_language::{Expr, Field, Pseudo};
+use cdk_members::{FirstPiece, ReadError, SubPiece, attribute_of, first_piece};
 use std::alloc::{AllocError, Global};
 
 /// The pseudo parameter of the name.
@@ -82,11 +82,7 @@ fn expression_in(
             Ok(Expr::Text(Text::from_string(literal)))
         }
         SubPiece::Name(name) => variable_of(alloc, copies, name, variables),
-        SubPiece::Attribute(path, attribute) => {
-            let path = Text::new(alloc, path)?;
-            let attribute = Text::new(alloc, attribute)?;
-            Ok(Expr::GetAtt(path, attribute))
-        }
+        SubPiece::Attribute(path, attribute) => attribute_of(alloc, path, attribute),
     }
 }
 

@@ -17,15 +17,13 @@ use cdk_carried::is_carried;
 use cdk_language::App;
 use cdk_lazies::lazy_order;
 use cdk_local_homes::local_homes;
-use cdk_passes::{fault_at, fault_at_root, pass_fault};
+use cdk_passes::{check_values_and_sizes, fault_at, fault_at_root, pass_fault};
 use cdk_rendered::{condition_renderings_are_own, renderings_are_own, values_fit};
-use cdk_sizes::check_sizes;
 use cdk_stacks::{Names, names};
 use cdk_targets::check_targets;
 use cdk_template::{Sources, check_counts};
 use cdk_tokens::{Marked, Table, mark};
 use cdk_tree::{NodeId, Tree, build};
-use cdk_values::check_values;
 use std::alloc::Global;
 
 /// The tree of an application, or the first fault of what isn't carried yet and of ids and places.
@@ -93,11 +91,8 @@ fn files_in_order(
     ensures answer { Answers (constructs tree.now) (value_passes (constructs tree.now)) result }
     ensures utf8 { IfOk result AllUtf8 }
 {
-    if let Err(found) = check_values(tree, table, marked) {
-        return Err(fault_at(alloc, tree, found));
-    }
-    if let Err(error) = check_sizes(alloc, tree, table, marked, order) {
-        return Err(pass_fault(alloc, tree, error));
+    if let Err(fault) = check_values_and_sizes(alloc, tree, table, marked, order) {
+        return Err(fault);
     }
     match names(alloc, tree) {
         Ok(names) => files_of_named(alloc, tree, (marked, table), order, &names),

@@ -7,7 +7,7 @@ use Rattle.serde_json.specs.Data.{array, boolean, number, string}
 use Rattle.serde_json.specs.View.{view, number_view, items_view, members_view}
 use Rattle.serde_json.proofs.Views.{Entry, view-Array, view-Object}
 use Rattle.cdk_language.specs.Runs.{is_marked_run, literals_of, form_literals, concat_literals, items_literals, substituted_literals, piece_literals, sub_literals, variables_literals}
-use Rattle.cdk_language.specs.SubView.{piece_view}
+use Rattle.cdk_members.specs.SubView.{piece_view}
 use Rattle.cdk_language.specs.Sub.{pieces_of}
 use Rattle.cdk_language.proofs.Pieces.{after-shorter, after-text}
 use Rattle.cdk_findings.specs.Reads.{Reads, opening}

@@ -1,6 +1,6 @@
 use Rattle.std.proofs.Common.{[], sym, subst, ◌∙◌}
 use Rattle.cdk_language.specs.Runs.{sub_literals}
-use Rattle.cdk_language.specs.SubView.{piece_view}
+use Rattle.cdk_members.specs.SubView.{piece_view}
 use Rattle.cdk_language.proofs.Pieces.{after-shorter, after-text}
 use Rattle.cdk_findings.specs.Reads.{Reads}
 use Rattle.cdk_findings.proofs.SubRuns.{uncut, next_cut, next_same, last_same}

@@ -2,7 +2,7 @@ use Rattle.std.proofs.Common.{◌≡◌, ℕ, ◌||◌, List, [], ◌∷◌, fal
 use Rattle.std.specs.List.{list_any}
 use Rattle.cdk_language.specs.Sub.{Piece, literal_before, pieces_of}
 use Rattle.cdk_language.specs.Schema.{are_wrong_pieces, is_barred_piece}
-use Rattle.cdk_language.specs.SubView.{piece_view}
+use Rattle.cdk_members.specs.SubView.{piece_view}
 use Rattle.cdk_language.specs.declared.schema.Within.{Within}
 use Rattle.cdk_language.specs.declared.schema.Within.TheVariants as within
 use Rattle.cdk_language.proofs.Pieces.{pieces-step, after-shorter, after-text}

@@ -1,6 +1,6 @@
 use Rattle.std.proofs.Common.{◌<◌, length, option_map, Some, arith, sym, ap, ◌∙◌, rules}
 use Rattle.cdk_language.specs.Sub.{pieces_of}
-use Rattle.cdk_language.specs.SubView.{piece_view}
+use Rattle.cdk_members.specs.SubView.{piece_view}
 use Rattle.cdk_language.proofs.Pieces.{after-shorter}
 use Rattle.cdk_substitution.specs.Steps.{before}
 use Rattle.cdk_substitution.proofs.Pieces.{whole_of, none_found, wrong_found, piece_found, all_found, concat_of, no_concat}

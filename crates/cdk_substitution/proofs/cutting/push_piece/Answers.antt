@@ -1,5 +1,5 @@
 use Rattle.std.proofs.Common.{◌≡◌, ap, ◌∙◌}
-use Rattle.cdk_language.specs.SubView.{piece_view}
+use Rattle.cdk_members.specs.SubView.{piece_view}
 use Rattle.cdk_substitution.specs.Steps.{before}
 use Rattle.cdk_substitution.proofs.Pieces.{pushed_piece, on_ok}
 use Rattle.cdk_substitution.proofs.cutting.push_piece.Goals as goal

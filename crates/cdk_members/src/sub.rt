@@ -1,7 +1,7 @@
 // The text of an `Fn::Sub`, piece by piece, without taking memory.
 ghost use Rattle.std.specs.Prelude.{◌≡◌, ◌<◌, length, option_map};
 ghost use Rattle.cdk_language.specs.Sub.{around as spec_around, piece_of as spec_piece_of, first_piece_of, is_attribute as spec_is_attribute, is_variable_name as spec_is_variable_name};
-ghost use Rattle.cdk_language.specs.SubView.{piece_view, first_view};
+ghost use Rattle.cdk_members.specs.SubView.{piece_view, first_view};
 
 /// What stands between `${` and `}` in the text of an `Fn::Sub`.
 #[derive(Clone, Copy)]

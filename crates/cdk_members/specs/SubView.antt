@@ -1,10 +1,10 @@
 -- The pieces that the code's pieces of a Sub's text stand for.
 use Rattle.std.specs.Prelude.{◌++◌, codes}
 use Rattle.cdk_language.specs.Sub as sub
-use Rattle.cdk_language.specs.declared.sub.FirstPiece.{FirstPiece}
-use Rattle.cdk_language.specs.declared.sub.FirstPiece.TheVariants as firsts
-use Rattle.cdk_language.specs.declared.sub.SubPiece.{SubPiece}
-use Rattle.cdk_language.specs.declared.sub.SubPiece.TheVariants as pieces
+use Rattle.cdk_members.specs.declared.sub.FirstPiece.{FirstPiece}
+use Rattle.cdk_members.specs.declared.sub.FirstPiece.TheVariants as firsts
+use Rattle.cdk_members.specs.declared.sub.SubPiece.{SubPiece}
+use Rattle.cdk_members.specs.declared.sub.SubPiece.TheVariants as pieces
 
 abbrev pub piece_view : SubPiece → sub.Piece
 piece_view (pieces.Kept x) = sub.literal (codes "${" ++ (x.now ++ codes "}"))

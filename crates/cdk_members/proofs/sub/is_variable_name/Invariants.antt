@@ -1,7 +1,7 @@
 use Rattle.std.proofs.Common.{◌≡◌, drop}
 use Rattle.std.specs.List.{list_all}
 use Rattle.std.specs.Char.{is_ascii_alphanumeric}
-use Rattle.cdk_language.proofs.sub.is_variable_name.Given as goal
+use Rattle.cdk_members.proofs.sub.is_variable_name.Given as goal
 
 abbrev pub invariant-loop-byte : goal.invariant-loop-byte
 invariant-loop-byte l = list_all is_ascii_alphanumeric l.byte-items ≡ list_all is_ascii_alphanumeric (drop l.byte-index l.byte-items)
