@@ -35,48 +35,28 @@ pub enum FormName {
 fn own_form_named(name: &str) -> Option<FormName>
     ensures { result ≡ spec_own_form_named name.now }
 {
-    if name == "CDK::Concat" {
-        return Some(FormName::Concat);
+    match name {
+        "CDK::Concat" => Some(FormName::Concat),
+        "CDK::Context" => Some(FormName::Context),
+        "CDK::Lazy" => Some(FormName::Lazy),
+        _ => None,
     }
-    if name == "CDK::Context" {
-        return Some(FormName::Context);
-    }
-    if name == "CDK::Lazy" {
-        return Some(FormName::Lazy);
-    }
-    None
 }
 
 /// The form of the name.
 pub fn form_named(name: &str) -> Option<FormName>
     ensures { result ≡ spec_form_named name.now }
 {
-    if name == "Ref" {
-        return Some(FormName::Ref);
+    match name {
+        "Ref" => Some(FormName::Ref),
+        "Fn::GetAtt" => Some(FormName::GetAtt),
+        "Fn::Join" => Some(FormName::Join),
+        "Fn::Select" => Some(FormName::Select),
+        "Fn::Split" => Some(FormName::Split),
+        "Fn::If" => Some(FormName::If),
+        "Fn::FindInMap" => Some(FormName::FindInMap),
+        "Fn::ImportValue" => Some(FormName::ImportValue),
+        "Fn::Sub" => Some(FormName::Sub),
+        _ => own_form_named(name),
     }
-    if name == "Fn::GetAtt" {
-        return Some(FormName::GetAtt);
-    }
-    if name == "Fn::Join" {
-        return Some(FormName::Join);
-    }
-    if name == "Fn::Select" {
-        return Some(FormName::Select);
-    }
-    if name == "Fn::Split" {
-        return Some(FormName::Split);
-    }
-    if name == "Fn::If" {
-        return Some(FormName::If);
-    }
-    if name == "Fn::FindInMap" {
-        return Some(FormName::FindInMap);
-    }
-    if name == "Fn::ImportValue" {
-        return Some(FormName::ImportValue);
-    }
-    if name == "Fn::Sub" {
-        return Some(FormName::Sub);
-    }
-    own_form_named(name)
 }

@@ -8,25 +8,16 @@ use cdk_language::KindName;
 pub fn kind_named(name: &str) -> Option<KindName>
     ensures { result ≡ spec_kind_named name.now }
 {
-    if name == "stage" {
-        Some(KindName::Stage)
-    } else if name == "stack" {
-        Some(KindName::Stack)
-    } else if name == "group" {
-        Some(KindName::Group)
-    } else if name == "resource" {
-        Some(KindName::Resource)
-    } else if name == "parameter" {
-        Some(KindName::Parameter)
-    } else if name == "condition" {
-        Some(KindName::Condition)
-    } else if name == "mapping" {
-        Some(KindName::Mapping)
-    } else if name == "output" {
-        Some(KindName::Output)
-    } else if name == "lazy" {
-        Some(KindName::Lazy)
-    } else {
-        None
+    match name {
+        "stage" => Some(KindName::Stage),
+        "stack" => Some(KindName::Stack),
+        "group" => Some(KindName::Group),
+        "resource" => Some(KindName::Resource),
+        "parameter" => Some(KindName::Parameter),
+        "condition" => Some(KindName::Condition),
+        "mapping" => Some(KindName::Mapping),
+        "output" => Some(KindName::Output),
+        "lazy" => Some(KindName::Lazy),
+        _ => None,
     }
 }

@@ -20,17 +20,12 @@ pub struct Policies {
 fn policy_of(name: Option<&str>) -> Option<Policy>
     ensures { result ≡ option_and_then policy_named (option_map (λ s. s.now) name.entry) }
 {
-    let name = name?;
-    if name == "Delete" {
-        return Some(Policy::Delete);
+    match name? {
+        "Delete" => Some(Policy::Delete),
+        "Retain" => Some(Policy::Retain),
+        "Snapshot" => Some(Policy::Snapshot),
+        _ => None,
     }
-    if name == "Retain" {
-        return Some(Policy::Retain);
-    }
-    if name == "Snapshot" {
-        return Some(Policy::Snapshot);
-    }
-    None
 }
 
 /// The policies among the members of a resource.
