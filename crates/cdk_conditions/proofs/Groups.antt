@@ -7,7 +7,7 @@ use Rattle.cdk_eval.specs.Conditions.{names_of}
 use Rattle.cdk_eval.specs.Outcomes.{Outcome}
 use Rattle.cdk_eval.specs.Reach.{IsIn}
 use Rattle.cdk_eval.proofs.Reach.{bytes_same, same_bytes, in_front, in_back}
-use Rattle.cdk_intrinsics.specs.declared.truths.Truths.{Truths}
+use Rattle.cdk_scopes.specs.declared.truths.Truths.{Truths}
 use Rattle.cdk_conditions.specs.declared.walk.Group.{Group}
 use Rattle.cdk_conditions.specs.Kept.{texts_of, is_kept, AreRight, IsSettled, AreSettled}
 use Rattle.cdk_conditions.specs.Walks.{leads_in, Leads, AreClosed, members_of, waiting_of, all_members, AreJoined, IsFrom, IsPart, IsGroup, floor_of, IsAbove, AreStacked, IsJoining, Walks, IsNew}

@@ -7,9 +7,9 @@ use Rattle.cdk_eval.specs.Reach.{IsIn}
 use Rattle.cdk_eval.specs.Views.{truth_view}
 use Rattle.cdk_eval.specs.declared.fault.EvalFault.TheVariants.{ConditionLoop}
 use Rattle.cdk_eval.proofs.Reach.{bytes_same, same_bytes}
-use Rattle.cdk_intrinsics.specs.Scopes.{kept_at}
-use Rattle.cdk_intrinsics.specs.declared.truths.Kept.{Kept}
-use Rattle.cdk_intrinsics.specs.declared.truths.Truths.{Truths}
+use Rattle.cdk_scopes.specs.Scopes.{kept_at}
+use Rattle.cdk_scopes.specs.declared.truths.Kept.{Kept}
+use Rattle.cdk_scopes.specs.declared.truths.Truths.{Truths}
 use Rattle.cdk_conditions.specs.Closing.{IsLooping, KeepsLoops}
 use Rattle.cdk_conditions.specs.Kept.{texts_of}
 

@@ -14,9 +14,9 @@ use Rattle.cdk_eval.specs.Outcomes.{Outcome, Untold}
 use Rattle.cdk_eval.specs.Reach.{IsIn, comes_to}
 use Rattle.cdk_eval.proofs.Reach.{bytes_same, same_bytes}
 use Rattle.cdk_eval.proofs.Bound.{truth_same, loops_found, names_opened}
-use Rattle.cdk_intrinsics.specs.Scopes.{kept_at, kept_truth, truth_in}
-use Rattle.cdk_intrinsics.specs.declared.truths.Kept.{Kept}
-use Rattle.cdk_intrinsics.specs.declared.truths.Truths.{Truths}
+use Rattle.cdk_scopes.specs.Scopes.{kept_at, kept_truth, truth_in}
+use Rattle.cdk_scopes.specs.declared.truths.Kept.{Kept}
+use Rattle.cdk_scopes.specs.declared.truths.Truths.{Truths}
 use Rattle.cdk_conditions.specs.Closing.{IsLooping, KeepsLoops, KeepsTruth}
 use Rattle.cdk_conditions.specs.Kept.{is_kept, IsKeptRight, AreRight, IsSettled, AreSettled}
 use Rattle.cdk_conditions.specs.Walks.{leads_in, Leads, AreClosed}

@@ -6,7 +6,7 @@ use Rattle.serde_json.specs.Find.{get_member}
 use Rattle.cdk_eval.specs.Outcomes.{Outcome}
 use Rattle.cdk_eval.specs.Reach.{IsIn}
 use Rattle.cdk_eval.proofs.Reach.{in_front, in_back}
-use Rattle.cdk_intrinsics.specs.declared.truths.Truths.{Truths}
+use Rattle.cdk_scopes.specs.declared.truths.Truths.{Truths}
 use Rattle.cdk_conditions.specs.declared.walk.Group.{Group}
 use Rattle.cdk_conditions.specs.declared.walk.Walk.{Walk}
 use Rattle.cdk_conditions.specs.Closing.{KeepsLoops, KeepsTruth}

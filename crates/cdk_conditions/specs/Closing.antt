@@ -6,9 +6,9 @@ use Rattle.cdk_eval.specs.Outcomes.{Outcome, Untold}
 use Rattle.cdk_eval.specs.Reach.{IsIn}
 use Rattle.cdk_eval.specs.Views.{truth_view}
 use Rattle.cdk_eval.specs.declared.fault.EvalFault.TheVariants.{ConditionLoop}
-use Rattle.cdk_intrinsics.specs.Scopes.{kept_at, truth_in}
-use Rattle.cdk_intrinsics.specs.declared.truths.Kept.{Kept}
-use Rattle.cdk_intrinsics.specs.declared.truths.Truths.{Truths}
+use Rattle.cdk_scopes.specs.Scopes.{kept_at, truth_in}
+use Rattle.cdk_scopes.specs.declared.truths.Kept.{Kept}
+use Rattle.cdk_scopes.specs.declared.truths.Truths.{Truths}
 
 -- kept as a condition that reaches itself
 pub record IsLooping (o : Option Kept) : Type 0 where

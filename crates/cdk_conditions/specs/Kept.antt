@@ -8,9 +8,9 @@ use Rattle.cdk_eval.specs.declared.fault.EvalFault.TheVariants.{BadIntrinsic}
 use Rattle.serde_json.specs.Find.{get_member}
 use Rattle.cdk_eval.specs.Reach.{IsIn}
 use Rattle.cdk_eval.specs.Views.{truth_view}
-use Rattle.cdk_intrinsics.specs.Scopes.{kept_at}
-use Rattle.cdk_intrinsics.specs.declared.truths.Kept.{Kept}
-use Rattle.cdk_intrinsics.specs.declared.truths.Truths.{Truths}
+use Rattle.cdk_scopes.specs.Scopes.{kept_at}
+use Rattle.cdk_scopes.specs.declared.truths.Kept.{Kept}
+use Rattle.cdk_scopes.specs.declared.truths.Truths.{Truths}
 
 abbrev pub texts_of : List (Bor (List ℕ)) → List (List ℕ)
 texts_of ns = map (λ n. n.now) ns

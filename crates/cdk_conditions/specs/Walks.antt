@@ -9,7 +9,7 @@ use Rattle.serde_json.specs.Find.{get_member}
 use Rattle.cdk_eval.specs.Conditions.{names_of, names_in}
 use Rattle.cdk_eval.specs.Outcomes.{Outcome}
 use Rattle.cdk_eval.specs.Reach.{IsIn, comes_to}
-use Rattle.cdk_intrinsics.specs.declared.truths.Truths.{Truths}
+use Rattle.cdk_scopes.specs.declared.truths.Truths.{Truths}
 use Rattle.cdk_conditions.specs.Kept.{texts_of, is_kept, AreRight, IsSettled, AreSettled}
 use Rattle.cdk_conditions.specs.declared.walk.Group.{Group}
 use Rattle.cdk_conditions.specs.declared.walk.Walk.{Walk}

@@ -2,37 +2,23 @@
 ghost use Rattle.std.specs.Prelude.{◌≡◌, true, Some, OnOk};
 ghost use Rattle.serde_json.specs.Find.{get_member};
 ghost use Rattle.serde_json.specs.View.{view, members_view};
-ghost use Rattle.cdk_eval.specs.Outcomes.{Untold};
-ghost use Rattle.cdk_eval.specs.declared.fault.EvalFault.TheVariants.{ConditionLoop};
 ghost use Rattle.cdk_eval.specs.Template.{outcome};
 ghost use Rattle.cdk_eval.specs.Views.{truth_view};
-ghost use Rattle.cdk_intrinsics.specs.Scopes.{scope_view, IsSound};
+ghost use Rattle.cdk_scopes.specs.Scopes.{scope_view, IsSound};
 ghost use Rattle.cdk_conditions.specs.Kept.{texts_of};
 ghost use Rattle.cdk_conditions.specs.Closing.{KeepsLoops, KeepsTruth};
 
 use crate::truth::truth_of;
 use cdk_base::Value;
-use cdk_eval::{EvalFault, Truth};
-use cdk_intrinsics::{Kept, Scope, Truths};
+use cdk_scopes::{Kept, Scope, Truths};
 use std::alloc::{AllocError, Global};
-
-/// What is kept of a condition that reaches itself.
-fn looping() -> Kept
-    ensures truth { truth_view result.truth ≡ Untold ConditionLoop }
-    ensures is_loop { result.is_loop ≡ true }
-{
-    Kept {
-        truth: Truth::Untold(EvalFault::ConditionLoop),
-        is_loop: true,
-    }
-}
 
 /// Keeps conditions that reach themselves.
 pub fn keep_loops<'a>(truths: &mut Truths<'a>, names: &[&'a str]) -> Result<(), AllocError>
     ensures { OnOk result (KeepsLoops (texts_of names.now) truths.old truths.new) }
 {
     for name in names {
-        truths.keep(name, looping())?;
+        truths.keep(name, Kept::looping())?;
     }
     Ok(())
 }

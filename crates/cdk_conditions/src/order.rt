@@ -4,7 +4,7 @@ ghost use Rattle.serde_json.specs.Find.{get_member};
 ghost use Rattle.serde_json.specs.View.{view, members_view};
 ghost use Rattle.cdk_eval.specs.Template.{outcome};
 ghost use Rattle.cdk_eval.specs.Views.{values_view};
-ghost use Rattle.cdk_intrinsics.specs.Scopes.{scope_view, IsSound, AreTruths};
+ghost use Rattle.cdk_scopes.specs.Scopes.{scope_view, IsSound, AreTruths};
 ghost use Rattle.cdk_conditions.specs.Kept.{is_kept, AreRight, IsSettled};
 ghost use Rattle.cdk_conditions.specs.Walks.{AreClosed, IsWalk, IsWalkWith, IsStep, Found, groups_of};
 
@@ -13,7 +13,7 @@ use crate::names::condition_at;
 use crate::walk::{Group, Walk};
 use cdk_base::{Map, Value};
 use cdk_eval::Values;
-use cdk_intrinsics::{Place, Scope, Truths, section};
+use cdk_scopes::{Place, Scope, Truths, section};
 use std::alloc::{AllocError, Global};
 
 /// The condition of a name that isn't kept.

@@ -4,13 +4,14 @@ ghost use Rattle.serde_json.specs.View.{view, items_view};
 ghost use Rattle.cdk_eval.specs.Conditions.{truth_of as spec_truth_of, single_truth, part_truths, item_truths, equals_form, equal_outcomes as spec_equal_outcomes, not_form, negated as spec_negated, name_form};
 ghost use Rattle.cdk_eval.specs.Template.{outcome};
 ghost use Rattle.cdk_eval.specs.Views.{truth_view, outcome_view};
-ghost use Rattle.cdk_intrinsics.specs.Scopes.{scope_view, truth_in, IsSound};
+ghost use Rattle.cdk_scopes.specs.Scopes.{scope_view, truth_in, IsSound};
 ghost use Rattle.cdk_conditions.specs.Kept.{junction as spec_junction, junction_of as spec_junction_of, few_by, form_truth as spec_form_truth};
 
 use crate::names::has_few;
 use cdk_base::Value;
 use cdk_eval::{EvalFault, Outcome, Truth};
-use cdk_intrinsics::{Scope, Truths, outcome_of, text_in, two_of};
+use cdk_intrinsics::{outcome_of, text_in, two_of};
+use cdk_scopes::{Scope, Truths};
 use std::alloc::{AllocError, Global};
 
 // ---- Fn::Equals

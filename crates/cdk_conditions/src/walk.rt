@@ -2,7 +2,7 @@
 ghost use Rattle.std.specs.Prelude.{◌≡◌, ℕ, List, [], Some, None, OnOk, IfOk, if◌then◌else◌, bytes_eq};
 ghost use Rattle.serde_json.specs.Data.{Data, Members};
 ghost use Rattle.serde_json.specs.View.{view};
-ghost use Rattle.cdk_intrinsics.specs.declared.truths.Truths.{Truths};
+ghost use Rattle.cdk_scopes.specs.declared.truths.Truths.{Truths};
 ghost use Rattle.cdk_conditions.specs.Kept.{texts_of};
 ghost use Rattle.cdk_conditions.specs.Walks.{position_at, positions_of, groups_of, Joins, AreJoined, IsNew, IsEntered, IsJoining, AreGrouped};
 

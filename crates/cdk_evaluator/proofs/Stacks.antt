@@ -8,8 +8,8 @@ use Rattle.cdk_eval.specs.Outcomes.{OutputOutcome}
 use Rattle.cdk_eval.specs.Sections.{section, presence, presence_by}
 use Rattle.cdk_eval.specs.Stack.{Stack, ResourceOutcome, StackOutcome, resource_outcomes, output_outcomes, export_entries, stack_scope, stack_outcome, stack_exports}
 use Rattle.cdk_eval.specs.Values.{Values}
-use Rattle.cdk_intrinsics.specs.declared.truths.Truths.{Truths}
-use Rattle.cdk_intrinsics.specs.Scopes.{truth_in, stated_truth, presence_of, AreTruths}
+use Rattle.cdk_scopes.specs.declared.truths.Truths.{Truths}
+use Rattle.cdk_scopes.specs.Scopes.{truth_in, stated_truth, presence_of, AreTruths}
 
 module _ (v : Values) (exports : List ℕ → Option (List ℕ)) (s : Stack) (ts : Truths) (truths : AreTruths v s.name s.template ts) where
   by_condition : (o : Option Data) → stated_truth (truth_in ts) o ≡ presence_by v s.name s.template o

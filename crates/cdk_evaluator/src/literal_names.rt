@@ -6,11 +6,11 @@ ghost use Rattle.cdk_eval.specs.Assembly.{entries, literal_name as spec_literal_
 ghost use Rattle.cdk_eval.specs.Reach.{is_among};
 ghost use Rattle.cdk_eval.specs.Sections.{section as spec_section};
 ghost use Rattle.cdk_eval.specs.Views.{stack_view};
-ghost use Rattle.cdk_intrinsics.specs.Scopes.{has_name};
+ghost use Rattle.cdk_scopes.specs.Scopes.{has_name};
 
 use cdk_base::{Map, Value};
 use cdk_eval::StackIn;
-use cdk_intrinsics::{NameSet, section};
+use cdk_scopes::{NameSet, section};
 use std::alloc::{AllocError, Global};
 
 fn literal_name(output: &Value) -> Option<&str>

@@ -6,12 +6,13 @@ ghost use Rattle.cdk_eval.specs.Stack.{output_value as spec_output_value, export
 ghost use Rattle.cdk_eval.specs.Template.{outcome};
 ghost use Rattle.cdk_eval.specs.Views.{output_view, output_entry};
 ghost use Rattle.cdk_intrinsics.specs.Forms.{told};
-ghost use Rattle.cdk_intrinsics.specs.Scopes.{scope_view, presence_of, IsSound};
+ghost use Rattle.cdk_scopes.specs.Scopes.{scope_view, presence_of, IsSound};
 ghost use Rattle.cdk_evaluator.specs.Made.{named_entry, export_pair};
 
 use cdk_base::{List, Map, Text, Value};
 use cdk_eval::{EvalFault, OutputOut, OutputOutcome, Truth};
-use cdk_intrinsics::{Scope, Truths, outcome_of, presence, text_in};
+use cdk_intrinsics::{outcome_of, text_in};
+use cdk_scopes::{Scope, Truths, presence};
 use std::alloc::{AllocError, Global};
 
 /// An export: its name and its text.

@@ -4,7 +4,7 @@ ghost use Rattle.std.specs.Option.{option_or};
 ghost use Rattle.cdk_eval.specs.Assembly.{assembly_outcome};
 ghost use Rattle.cdk_eval.specs.Stack.{lookup};
 ghost use Rattle.cdk_eval.specs.Views.{values_view, assembly_view, report_view};
-ghost use Rattle.cdk_intrinsics.specs.Scopes.{exports_view};
+ghost use Rattle.cdk_scopes.specs.Scopes.{exports_view};
 ghost use Rattle.cdk_evaluator.specs.Made.{export_pair};
 
 use crate::literal_names::literal_names;
@@ -12,7 +12,7 @@ use crate::outputs::Export;
 use crate::stack::{Evaluation, stack_of};
 use cdk_base::List;
 use cdk_eval::{Assembly, Report, Values};
-use cdk_intrinsics::Exports;
+use cdk_scopes::Exports;
 use std::alloc::{AllocError, Global};
 
 fn add_all(alloc: Global, exports: &mut Exports<'_>, made: &[Export]) -> Result<(), AllocError>

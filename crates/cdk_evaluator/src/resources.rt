@@ -5,11 +5,12 @@ ghost use Rattle.cdk_eval.specs.Sections.{section as spec_section};
 ghost use Rattle.cdk_eval.specs.Stack.{resource_at, resource_outcomes};
 ghost use Rattle.cdk_eval.specs.Template.{each_member};
 ghost use Rattle.cdk_eval.specs.Views.{truth_view, made_view, property_view, resource_view};
-ghost use Rattle.cdk_intrinsics.specs.Scopes.{scope_view, presence_of, IsSound};
+ghost use Rattle.cdk_scopes.specs.Scopes.{scope_view, presence_of, IsSound};
 
 use cdk_base::{List, Map, Text, Value};
 use cdk_eval::{Made, PropertyOut, ResourceOut, Truth};
-use cdk_intrinsics::{Scope, Truths, outcome_of, presence, section};
+use cdk_intrinsics::outcome_of;
+use cdk_scopes::{Scope, Truths, presence, section};
 use std::alloc::{AllocError, Global};
 
 fn made_of(presence: Truth) -> Made

@@ -4,7 +4,7 @@ ghost use Rattle.serde_json.specs.View.{view};
 ghost use Rattle.cdk_eval.specs.Sections.{section as spec_section};
 ghost use Rattle.cdk_eval.specs.Stack.{resource_outcomes, output_outcomes, export_entries, stack_outcome, stack_exports};
 ghost use Rattle.cdk_eval.specs.Views.{resource_view, output_entry, values_view, stack_view, stack_out_view};
-ghost use Rattle.cdk_intrinsics.specs.Scopes.{scope_view, presence_of, exports_view, IsSound, AreTruths};
+ghost use Rattle.cdk_scopes.specs.Scopes.{scope_view, presence_of, exports_view, IsSound, AreTruths};
 ghost use Rattle.cdk_evaluator.specs.Made.{export_pair};
 
 use crate::outputs::{Export, Outputs, outputs_in};
@@ -12,7 +12,7 @@ use crate::resources::resources_in;
 use cdk_base::{List, Text};
 use cdk_conditions::truths_of;
 use cdk_eval::{ResourceOut, StackIn, StackOut, Values};
-use cdk_intrinsics::{Exports, Place, Scope, Truths, section};
+use cdk_scopes::{Exports, Place, Scope, Truths, section};
 use std::alloc::{AllocError, Global};
 
 /// A stack's outcome, and the exports that it makes.

@@ -7,10 +7,11 @@ use Rattle.cdk_eval.specs.declared.fault.EvalFault.TheVariants.{UnknownName}
 use Rattle.cdk_eval.specs.Outcomes.{Fault}
 use Rattle.cdk_eval.specs.Sections.{section, made_text, presence_by, operand_resource, resource_outcome}
 use Rattle.cdk_eval.specs.Values.{Values, physical_text}
-use Rattle.cdk_intrinsics.specs.Scopes.{AreTruths, truth_in, stated_truth, presence_of, text_unless, resource_in}
-use Rattle.cdk_intrinsics.specs.declared.scope.Place.{Place}
-use Rattle.cdk_intrinsics.specs.declared.scope.Place.TheVariants.{Operand, Body}
-use Rattle.cdk_intrinsics.specs.declared.truths.Truths.{Truths}
+use Rattle.cdk_scopes.specs.Scopes.{AreTruths, truth_in, stated_truth, presence_of, text_unless}
+use Rattle.cdk_intrinsics.specs.Names.{resource_in}
+use Rattle.cdk_scopes.specs.declared.scope.Place.{Place}
+use Rattle.cdk_scopes.specs.declared.scope.Place.TheVariants.{Operand, Body}
+use Rattle.cdk_scopes.specs.declared.truths.Truths.{Truths}
 
 module _ (v : Values) (n : List ℕ) (t : Data) (ts : Truths) (sound : AreTruths v n t ts) where
   presence_same : (o : Option Data) → stated_truth (truth_in ts) o ≡ presence_by v n t o

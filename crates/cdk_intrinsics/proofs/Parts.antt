@@ -1,7 +1,7 @@
 -- The parts of a Sub's text, and the forms of intrinsics whose arguments have a wrong number.
 use Rattle.std.proofs.Common.{String, Global, string_bytes, rules, ◌≡◌, ◌≢◌, ℕ, List, [], ◌∷◌, ◌++◌, length, map, Bool, true, false, Option, Some, None, refl, sym, ap, ◌∙◌, arith, append_assoc, append-nil}
 use Rattle.std.specs.Prelude.{◌&&◌, bytes_eq, codes, if◌then◌else◌}
-use Rattle.serde_json.specs.Data.{Data, string, array, object, Items, no_items, item, Members}
+use Rattle.serde_json.specs.Data.{Data, null, boolean, number, string, array, object, Items, no_items, item, Members}
 use Rattle.serde_json.specs.View.{view, items_view}
 use Rattle.serde_json.specs.declared.value.Value.{Value, the_lemmas}
 use Rattle.serde_json.specs.declared.value.Value.TheVariants as values
@@ -13,13 +13,20 @@ use Rattle.cdk_eval.specs.Outcomes as outcomes
 use Rattle.cdk_eval.specs.SubText.{SubPart, literal, hole, Asked, spelled, attribute_of, named, asked, sub_parts}
 use Rattle.cdk_eval.specs.Template.{Scope, Part, parts, item_parts, item_outcomes, ref_form, att_form, join_form, select_form, split_form, if_form, map_form, import_form, sub_form, form_outcome, is_barred_key, sub_items, sub_part_outcome, asked_outcome, named_or, ref_outcome, join_texts, outcome, sub_args, members_of, sub_outcome, each_member}
 use Rattle.cdk_eval.specs.Texts.{item_texts, text_before, join_with, with_before}
-use Rattle.cdk_intrinsics.specs.Forms.{pair_form, leaf_at, leaf_among, map_listed, intrinsic_at, where_there}
+use Rattle.cdk_intrinsics.specs.Forms.{pair_form, if_arguments, if_among, leaf_at, leaf_among, map_listed, intrinsic_at, where_there}
 use Rattle.cdk_intrinsics.specs.Substitution.{items_by, part_by, asked_by, AreUsed, IsUsedAt, IsUsedIn, IsPieceOf, text_and, finish, joined_items}
 use Rattle.cdk_intrinsics.specs.declared.forms.PairForm.{PairForm}
 use Rattle.cdk_intrinsics.specs.declared.forms.PairForm.TheVariants.{Join, Select, Split}
 use Rattle.cdk_intrinsics.specs.declared.intrinsic.Intrinsic.TheVariants as intrinsics
 
 -- ---- a wrong number of arguments
+
+pub no_if_arguments : (vs : List Value) → length vs ≢ 3 → if_arguments (array (items_view vs)) ≡ None
+no_if_arguments [] h = refl
+no_if_arguments (v ∷ []) h = refl
+no_if_arguments (v ∷ w ∷ []) h = refl
+no_if_arguments (v ∷ w ∷ x ∷ []) h = absurd (h refl)
+no_if_arguments (v ∷ w ∷ x ∷ y ∷ vs) h = refl
 
 module _ (s : Scope) where
   pub att_other : (vs : List Value) → length vs ≢ 2 → Fault BadIntrinsic ≡ att_form s (item_parts s (items_view vs))
@@ -42,12 +49,22 @@ module _ (s : Scope) where
   pair_other Split (v ∷ w ∷ []) h = absurd (h refl)
   pair_other Split (v ∷ w ∷ x ∷ vs) h = refl
 
-  pub if_other : (vs : List Value) → length vs ≢ 3 → Fault BadIntrinsic ≡ if_form s (item_parts s (items_view vs))
-  if_other [] h = refl
-  if_other (v ∷ []) h = refl
-  if_other (v ∷ w ∷ []) h = refl
-  if_other (v ∷ w ∷ x ∷ []) h = absurd (h refl)
-  if_other (v ∷ w ∷ x ∷ y ∷ vs) h = refl
+  pub if_listed : (d : Data) → if_among s (if_arguments d) ≡ if_form s (parts s d)
+  if_listed null = refl
+  if_listed (boolean b) = refl
+  if_listed (number x) = refl
+  if_listed (string t) = refl
+  if_listed (object ms) = refl
+  if_listed (array no_items) = refl
+  if_listed (array (item c no_items)) = refl
+  if_listed (array (item c (item x no_items))) = refl
+  if_listed (array (item null (item x (item y no_items)))) = refl
+  if_listed (array (item (boolean b) (item x (item y no_items)))) = refl
+  if_listed (array (item (number n) (item x (item y no_items)))) = refl
+  if_listed (array (item (string t) (item x (item y no_items)))) = refl
+  if_listed (array (item (array ds) (item x (item y no_items)))) = refl
+  if_listed (array (item (object ms) (item x (item y no_items)))) = refl
+  if_listed (array (item c (item x (item y (item z ds))))) = refl
 
   pub map_other : (vs : List Value) → length vs ≢ 3 → Fault BadIntrinsic ≡ map_form s (item_parts s (items_view vs))
   map_other [] h = refl

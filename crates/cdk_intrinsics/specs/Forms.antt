@@ -1,11 +1,12 @@
 -- The forms of intrinsics that are evaluated alike.
-use Rattle.std.specs.Prelude.{ℕ, List, Bool, Option, Some, None, Result, Ok, Err, ◌&&◌, bytes_eq, codes, if◌then◌else◌}
+use Rattle.std.specs.Prelude.{ℕ, List, Bool, Option, Some, None, option_map, Result, Ok, Err, ◌&&◌, bytes_eq, codes, if◌then◌else◌}
 use Rattle.cdk_eval.specs.declared.fault.EvalFault.{EvalFault}
-use Rattle.serde_json.specs.Data.{Data, Items, no_items, item}
+use Rattle.serde_json.specs.Data.{Data, array, Items, no_items, item}
+use Rattle.serde_json.specs.Find.{as_str}
 use Rattle.cdk_base.specs.Json.{text_of}
 use Rattle.cdk_eval.specs.declared.fault.EvalFault.TheVariants.{NotText, BadIntrinsic}
-use Rattle.cdk_eval.specs.Outcomes.{Outcome, Fault, OutputOutcome, OutputText, OutputFault, on_items}
-use Rattle.cdk_eval.specs.Template.{Scope, Part, ref_form, att_form, join_form, join_args, select_form, select_args, split_form, split_args, sub_form, if_form, map_form, import_form, is_barred_key}
+use Rattle.cdk_eval.specs.Outcomes.{Outcome, Fault, OutputOutcome, OutputText, OutputFault, on_items, picked}
+use Rattle.cdk_eval.specs.Template.{Scope, Part, outcome, ref_form, att_form, join_form, join_args, select_form, select_args, split_form, split_args, sub_form, if_form, map_form, import_form, is_barred_key}
 use Rattle.cdk_eval.specs.Texts.{index_of}
 use Rattle.cdk_intrinsics.specs.declared.forms.PairForm.{PairForm}
 use Rattle.cdk_intrinsics.specs.declared.forms.PairForm.TheVariants.{Join, Select, Split}
@@ -22,6 +23,16 @@ abbrev pub pair_args : PairForm → Data → Outcome → Outcome
 pair_args Join d o = join_args d o
 pair_args Select d o = select_args (index_of d) o
 pair_args Split d o = split_args d o
+
+-- the name of the condition of `Fn::If`, and its two values
+abbrev pub if_arguments : Data → Option (List ℕ × (Data × Data))
+if_arguments (array (item c (item x (item y no_items)))) = option_map (λ t. (t, (x, y))) (as_str c)
+if_arguments d = None
+
+-- `Fn::If` at these
+abbrev pub if_among : Scope → Option (List ℕ × (Data × Data)) → Outcome
+if_among s None = Fault BadIntrinsic
+if_among s (Some (c, (x, y))) = picked (s.condition c) (outcome s x) (outcome s y)
 
 -- `Fn::FindInMap` at the texts of its arguments, where each has one
 abbrev pub leaf_at : Scope → Option (List ℕ) → Option (List ℕ) → Option (List ℕ) → Outcome

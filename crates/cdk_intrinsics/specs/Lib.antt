@@ -1,4 +1,4 @@
 pub mod Forms
 pub mod Found
-pub mod Scopes
+pub mod Names
 pub mod Substitution

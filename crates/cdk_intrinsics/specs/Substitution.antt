@@ -13,8 +13,8 @@ use Rattle.cdk_eval.specs.SubText.{SubPart, literal, hole, Asked, spelled, attri
 use Rattle.cdk_eval.specs.Template.{Scope, ref_outcome, join_texts, named_or, sub_form, item_parts}
 use Rattle.cdk_eval.specs.Texts.{item_texts, join_with}
 use Rattle.cdk_eval.specs.Views.{outcome_view}
-use Rattle.cdk_intrinsics.specs.Scopes.{has_name}
-use Rattle.cdk_intrinsics.specs.declared.name_set.NameSet.{NameSet}
+use Rattle.cdk_scopes.specs.Scopes.{has_name}
+use Rattle.cdk_scopes.specs.declared.name_set.NameSet.{NameSet}
 use Rattle.cdk_intrinsics.specs.declared.substitution.Named.{Named}
 use Rattle.cdk_intrinsics.specs.declared.substitution.Piece.{Piece}
 use Rattle.cdk_intrinsics.specs.declared.substitution.Piece.TheVariants as pieces

@@ -1,20 +1,23 @@
 // The intrinsics at their arguments, once these are evaluated (CloudFormation's intrinsic function reference).
-ghost use Rattle.std.specs.Prelude.{◌≡◌, ◌&&◌, [], ◌∷◌, IfOk, MatchOption, length, ◌≢◌};
+ghost use Rattle.std.specs.Prelude.{◌≡◌, ◌&&◌, ◌<◌, [], ◌∷◌, IfOk, MatchOption, length, ◌≢◌, option_map};
+ghost use Rattle.std.specs.Option.{IfSome};
+ghost use Rattle.serde_json.specs.declared.value.Value.{size-Value};
 ghost use Rattle.serde_json.specs.declared.value.Value.TheVariants as values;
 ghost use Rattle.serde_json.specs.View.{view, number_view, items_view, members_view};
 ghost use Rattle.cdk_base.specs.Json.{is_intrinsic_key as spec_is_intrinsic_key};
-ghost use Rattle.cdk_eval.specs.Template.{parts, number_outcome as spec_number_outcome, has_intrinsic_key as spec_has_intrinsic_key, is_barred_key, ref_form as spec_ref_form, att_form as spec_att_form, import_form, join_args as spec_join_args, select_args as spec_select_args, split_args as spec_split_args};
+ghost use Rattle.cdk_eval.specs.Template.{outcome as spec_outcome, parts, number_outcome as spec_number_outcome, has_intrinsic_key as spec_has_intrinsic_key, is_barred_key, ref_form as spec_ref_form, att_form as spec_att_form, if_form, import_form, join_args as spec_join_args, select_args as spec_select_args, split_args as spec_split_args};
 ghost use Rattle.cdk_eval.specs.Texts.{index_of as spec_index_of};
 ghost use Rattle.cdk_eval.specs.Views.{outcome_view};
 ghost use Rattle.cdk_eval.specs.Stack.{text_outcome as spec_text_outcome};
-ghost use Rattle.cdk_intrinsics.specs.Forms.{pair_args, leaf_among as spec_leaf_among, map_listed, told};
-ghost use Rattle.cdk_intrinsics.specs.Scopes.{scope_view, IsSound};
+ghost use Rattle.cdk_intrinsics.specs.Forms.{pair_args, if_arguments as spec_if_arguments, leaf_among as spec_leaf_among, map_listed, told};
+ghost use Rattle.cdk_scopes.specs.Branch.{branch_outcome};
+ghost use Rattle.cdk_scopes.specs.Scopes.{scope_view, IsSound};
 ghost use Rattle.cdk_intrinsics.specs.Substitution.{IsNoSub};
 
-use crate::Scope;
-use crate::names::{attribute_outcome, export, is_operand, leaf_of, ref_outcome};
+use crate::names::{attribute_outcome, condition, export, is_operand, leaf_of, ref_outcome};
 use cdk_base::{Map, Text, Value, text_of};
 use cdk_eval::{EvalFault, Outcome, is_whole};
+use cdk_scopes::{Scope, branch};
 use cdk_texts::{cut, index_of, joined};
 use serde_json::Number;
 use std::alloc::{AllocError, Global};
@@ -63,6 +66,23 @@ pub fn text_and_names(items: &Vec<Value>) -> Option<(&String, &Map)>
         return None;
     };
     Some((text, names))
+}
+
+/// The name of the condition of a `Fn::If`, and its two values.
+fn if_arguments(argument: &Value) -> Option<(&str, &Value, &Value)>
+    ensures parts { option_map (λ p. (p.0.now, (view p.1.now, view p.2.now))) result ≡ spec_if_arguments (view argument.now) }
+    ensures smaller { IfSome result (λ p. (size-Value p.1.now < size-Value argument.now) × (size-Value p.2.now < size-Value argument.now)) }
+{
+    let Value::Array(items) = argument else {
+        return None;
+    };
+    let Some((name, held, other)) = three_of(items) else {
+        return None;
+    };
+    let Some(name) = name.as_str() else {
+        return None;
+    };
+    Some((name, held, other))
 }
 
 fn is_intrinsic_key(key: &str) -> bool
@@ -139,6 +159,18 @@ pub fn att_form(
         return Ok(Outcome::Fault(EvalFault::BadIntrinsic));
     };
     attribute_outcome(alloc, scope, name.as_str(), attribute.as_str())
+}
+
+/// The value that a `Fn::If` picks by its condition, or why there is none.
+pub fn if_branch<'v>(scope: &Scope<'_, '_>, argument: &'v Value) -> Result<&'v Value, EvalFault>
+    requires { IsSound scope.now }
+    ensures picked { branch_outcome (spec_outcome (scope_view scope.now)) result ≡ if_form (scope_view scope.now) (parts (scope_view scope.now) (view argument.now)) }
+    ensures smaller { IfOk result (λ v. size-Value v.now < size-Value argument.now) }
+{
+    let Some((name, held, other)) = if_arguments(argument) else {
+        return Err(EvalFault::BadIntrinsic);
+    };
+    branch(condition(scope, name), held, other)
 }
 
 /// The text of an outcome as a literal, or why there is none: gone and values without a text are `NotText`.

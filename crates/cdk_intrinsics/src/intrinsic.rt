@@ -1,10 +1,10 @@
 // The intrinsic functions by their keys (CloudFormation's intrinsic function reference).
 ghost use Rattle.std.specs.Prelude.{◌≡◌};
 ghost use Rattle.cdk_intrinsics.specs.Forms.{intrinsic_of as spec_intrinsic_of, intrinsic_at as spec_intrinsic_at};
-ghost use Rattle.cdk_intrinsics.specs.Scopes.{scope_view};
+ghost use Rattle.cdk_scopes.specs.Scopes.{scope_view};
 
-use crate::Scope;
 use crate::forms::{PairForm, is_barred};
+use cdk_scopes::Scope;
 
 /// An intrinsic function.
 #[derive(Clone, Copy)]

@@ -1,22 +1,20 @@
 // What a name stands for: a pseudo parameter, a parameter, a resource or a mapping (CloudFormation: Ref, Fn::GetAtt and
 // Fn::FindInMap).
-ghost use Rattle.std.specs.Prelude.{◌≡◌, Some, IfOk, option_map, option_and_then, string_bytes, codes};
+ghost use Rattle.std.specs.Prelude.{◌≡◌, IfOk, option_map, option_and_then, string_bytes, codes};
 ghost use Rattle.serde_json.specs.Data.{string};
 ghost use Rattle.serde_json.specs.Find.{get, get_member};
 ghost use Rattle.serde_json.specs.View.{view};
-ghost use Rattle.cdk_base.specs.Json.{text_of as text_in_json};
 ghost use Rattle.cdk_eval.specs.Outcomes as outcomes;
-ghost use Rattle.cdk_eval.specs.Sections.{is_list_type as spec_is_list_type, parameter_value, parameter_outcome as spec_parameter_outcome, section as spec_section};
+ghost use Rattle.cdk_eval.specs.Sections.{section as spec_section};
 ghost use Rattle.cdk_eval.specs.Template.{ref_outcome as spec_ref_outcome};
 ghost use Rattle.cdk_eval.specs.Values.{pseudo_default as spec_pseudo_default, pseudo_text as spec_pseudo_text, physical_text as spec_physical_text, attribute_text as spec_attribute_text};
 ghost use Rattle.cdk_eval.specs.Views.{values_view, outcome_view, truth_view};
-ghost use Rattle.cdk_intrinsics.specs.Scopes.{scope_view, resource_at, IsSound};
+ghost use Rattle.cdk_scopes.specs.Scopes.{scope_view, IsSound};
+ghost use Rattle.cdk_intrinsics.specs.Names.{resource_at};
 
-use crate::resources::{barred_by, presence};
-use crate::{Place, Scope, entry};
-use cdk_base::{Text, Value, text_of};
+use cdk_base::Value;
 use cdk_eval::{EvalFault, Outcome, Truth, Values, has_text};
-use cdk_texts::list_items;
+use cdk_scopes::{Place, Scope, barred_by, entry, parameter_outcome, presence};
 use std::alloc::{AllocError, Global};
 
 fn text_outcome(text: String) -> Outcome
@@ -65,57 +63,6 @@ fn pseudo_text(
     match values.pseudo(name) {
         Some(given) => Ok(Some(String::from_str(alloc, given)?)),
         None => Ok(Some(String::from_str(alloc, usual)?)),
-    }
-}
-
-// ---- parameters
-
-fn is_list_type(kind: Option<&Value>) -> bool
-    ensures { result ≡ spec_is_list_type (option_map (λ v. view v.now) kind.entry) }
-{
-    match kind {
-        Some(Value::String(kind)) => {
-            let kind = kind.as_str();
-            kind == "CommaDelimitedList" || kind.as_bytes().starts_with(b"List<")
-        }
-        _ => false,
-    }
-}
-
-fn default_text(alloc: Global, parameter: &Value) -> Result<Option<Text>, AllocError>
-    ensures { IfOk result (λ t. t ≡ option_and_then text_in_json (get (codes "Default") (view parameter.now))) }
-{
-    match parameter.get("Default") {
-        Some(value) => text_of(alloc, value),
-        None => Ok(None),
-    }
-}
-
-fn text_or_items(alloc: Global, is_list: bool, text: &str) -> Result<Outcome, AllocError>
-    ensures { IfOk result (λ o. outcome_view o ≡ parameter_value is_list (Some text.now)) }
-{
-    if is_list {
-        let items = list_items(alloc, text)?;
-        return Ok(Outcome::Value(Value::Array(items)));
-    }
-    Ok(text_outcome(String::from_str(alloc, text)?))
-}
-
-/// What `Ref` of a parameter gives: the value from outside, else the default.
-fn parameter_outcome(
-    alloc: Global,
-    given: Option<&str>,
-    parameter: &Value,
-) -> Result<Outcome, AllocError>
-    ensures { IfOk result (λ o. outcome_view o ≡ spec_parameter_outcome (option_map (λ s. s.now) given.entry) (view parameter.now)) }
-{
-    let is_list = is_list_type(parameter.get("Type"));
-    if let Some(text) = given {
-        return text_or_items(alloc, is_list, text);
-    }
-    match default_text(alloc, parameter)? {
-        Some(text) => text_or_items(alloc, is_list, text.as_str()),
-        None => Ok(Outcome::Fault(EvalFault::NoParameter)),
     }
 }
 

@@ -4,13 +4,13 @@ ghost use Rattle.cdk_eval.specs.SubText.{sub_parts as spec_sub_parts, asked};
 ghost use Rattle.cdk_eval.specs.Template.{sub_outcome as spec_sub_outcome, ref_outcome as spec_ref_outcome};
 ghost use Rattle.cdk_eval.specs.Views.{outcome_view};
 ghost use Rattle.cdk_texts.specs.Steps.{part_view, asked_view};
-ghost use Rattle.cdk_intrinsics.specs.Scopes.{scope_view, IsSound, has_name};
+ghost use Rattle.cdk_scopes.specs.Scopes.{scope_view, IsSound, has_name};
 ghost use Rattle.cdk_intrinsics.specs.Substitution.{named_at, look, asked_by as spec_asked_by, part_by, items_by, joined_items, AreUsed, IsUsedIn, IsPieceOf};
 
 use crate::names::{attribute_outcome, ref_outcome};
-use crate::{NameSet, Scope};
 use cdk_base::{Text, Value, text_of};
 use cdk_eval::{EvalFault, Outcome};
+use cdk_scopes::{NameSet, Scope};
 use cdk_texts::{Asked, Part, asked_by, sub_parts};
 use std::alloc::{AllocError, Global};
 use std::collections::BTreeMap;

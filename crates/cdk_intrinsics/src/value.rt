@@ -6,20 +6,19 @@ ghost use Rattle.cdk_eval.specs.Outcomes.{array_outcome as spec_array_outcome, o
 ghost use Rattle.cdk_eval.specs.Template.{outcome, item_outcomes, member_outcomes, single_form as spec_single_form, if_form as spec_if_form, map_form as spec_map_form, sub_form as spec_sub_form, parts, item_parts, each_member};
 ghost use Rattle.cdk_eval.specs.Views.{outcome_view};
 ghost use Rattle.cdk_intrinsics.specs.Forms.{pair_form as spec_pair_form, at_argument};
-ghost use Rattle.cdk_intrinsics.specs.Scopes.{scope_view, IsSound};
+ghost use Rattle.cdk_scopes.specs.Scopes.{scope_view, IsSound};
 ghost use Rattle.cdk_intrinsics.specs.Substitution.{HasUsed};
 
 use crate::forms::{
-    PairForm, att_form, has_intrinsic_key, import_outcome, leaf_outcome, number_outcome,
+    PairForm, att_form, has_intrinsic_key, if_branch, import_outcome, leaf_outcome, number_outcome,
     pair_outcome, ref_form, text_and_names, three_of, two_of,
 };
 use crate::found::put_outcome;
 use crate::intrinsic::{Intrinsic, intrinsic_at};
-use crate::names::condition;
 use crate::substitution::{Named, is_wanted, plain_sub, sub_outcome, used_names};
-use crate::{NameSet, Scope};
 use cdk_base::{Map, Value};
-use cdk_eval::{EvalFault, Outcome, Truth};
+use cdk_eval::{EvalFault, Outcome};
+use cdk_scopes::{NameSet, Scope};
 use cdk_texts::sub_parts;
 use std::alloc::{AllocError, Global};
 
@@ -153,26 +152,17 @@ fn pair_form(
     pair_outcome(alloc, form, first, &second)
 }
 
-/// `Fn::If`: the branch that the condition picks is evaluated, and the other isn't.
+/// `Fn::If`: the value that the condition picks is evaluated, and the other isn't.
 #[cycle(evaluation)]
 fn if_form(alloc: Global, scope: &Scope<'_, '_>, argument: &Value) -> Result<Outcome, AllocError>
     requires { IsSound scope.now }
     ensures { IfOk result (λ o. outcome_view o ≡ spec_if_form (scope_view scope.now) (parts (scope_view scope.now) (view argument.now))) }
 {
-    let Value::Array(items) = argument else {
-        return Ok(Outcome::Fault(EvalFault::BadIntrinsic));
+    let value = match if_branch(scope, argument) {
+        Ok(value) => value,
+        Err(fault) => return Ok(Outcome::Fault(fault)),
     };
-    let Some((name, held, other)) = three_of(items) else {
-        return Ok(Outcome::Fault(EvalFault::BadIntrinsic));
-    };
-    let Value::String(name) = name else {
-        return Ok(Outcome::Fault(EvalFault::BadIntrinsic));
-    };
-    match condition(scope, name.as_str()) {
-        Truth::Holds(true) => outcome_of(alloc, scope, held),
-        Truth::Holds(false) => outcome_of(alloc, scope, other),
-        Truth::Untold(fault) => Ok(Outcome::Fault(fault)),
-    }
+    outcome_of(alloc, scope, value)
 }
 
 /// `Fn::FindInMap`: all three arguments are evaluated before their texts are looked at.

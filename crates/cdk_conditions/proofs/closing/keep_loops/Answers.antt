@@ -1,6 +1,6 @@
 use Rattle.std.proofs.Common.{◌≡◌, ◌+◌, ◌<◌, [], ◌∷◌, drop, get_or, Bor, List, ℕ, length, subst, arith, inr, refl}
 use Rattle.std.proofs.lemmas.List.{drop_more, drop_all}
-use Rattle.cdk_intrinsics.specs.Scopes.{kept_at}
+use Rattle.cdk_scopes.specs.Scopes.{kept_at}
 use Rattle.cdk_conditions.specs.Kept.{texts_of}
 use Rattle.cdk_conditions.proofs.Loops.{AreKept, keeps_more, keeps_all, in_at}
 use Rattle.cdk_conditions.proofs.closing.keep_loops.Goals as goal

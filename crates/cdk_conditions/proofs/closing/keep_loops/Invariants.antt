@@ -1,5 +1,5 @@
 use Rattle.std.proofs.Common.{drop}
-use Rattle.cdk_intrinsics.specs.Scopes.{kept_at}
+use Rattle.cdk_scopes.specs.Scopes.{kept_at}
 use Rattle.cdk_conditions.specs.Kept.{texts_of}
 use Rattle.cdk_conditions.proofs.Loops.{AreKept}
 use Rattle.cdk_conditions.proofs.closing.keep_loops.Given as goal

@@ -3,7 +3,7 @@ use Rattle.std.proofs.lemmas.Result.{IfOk-weaker}
 use Rattle.serde_json.specs.View.{view, members_view}
 use Rattle.cdk_eval.specs.Reach.{IsIn}
 use Rattle.cdk_eval.specs.Template.{outcome}
-use Rattle.cdk_intrinsics.specs.Scopes.{scope_view}
+use Rattle.cdk_scopes.specs.Scopes.{scope_view}
 use Rattle.cdk_conditions.specs.Kept.{texts_of, is_kept}
 use Rattle.cdk_conditions.specs.Walks.{members_of, IsWalk}
 use Rattle.cdk_conditions.specs.Closing.{KeepsLoops, KeepsTruth}

@@ -1,7 +1,7 @@
 use Rattle.std.proofs.Common.{◌+◌, ◌<◌, sym, subst}
 use Rattle.serde_json.specs.View.{view, members_view}
 use Rattle.cdk_eval.specs.Template.{outcome}
-use Rattle.cdk_intrinsics.specs.Scopes.{scope_view}
+use Rattle.cdk_scopes.specs.Scopes.{scope_view}
 use Rattle.cdk_conditions.specs.Walks.{Walks, positions_of, names_left, waiting_left, steps_left}
 use Rattle.cdk_conditions.proofs.Steps.{turned_push}
 use Rattle.cdk_conditions.proofs.Walking.{begins, ends, not_settled}

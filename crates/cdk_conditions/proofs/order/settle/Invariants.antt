@@ -2,7 +2,7 @@ use Rattle.std.proofs.Common.{◌≡◌, ℕ, List, true}
 use Rattle.std.specs.Prelude.{is_some}
 use Rattle.serde_json.specs.View.{members_view}
 use Rattle.cdk_eval.specs.Template.{outcome}
-use Rattle.cdk_intrinsics.specs.Scopes.{scope_view}
+use Rattle.cdk_scopes.specs.Scopes.{scope_view}
 use Rattle.cdk_conditions.specs.Kept.{is_kept}
 use Rattle.cdk_conditions.specs.Walks.{IsWalk, positions_of, steps_left}
 use Rattle.cdk_conditions.proofs.order.settle.Given as goal

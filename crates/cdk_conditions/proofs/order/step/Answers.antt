@@ -3,8 +3,8 @@ use Rattle.std.proofs.lemmas.Result.{IfOk-weaker}
 use Rattle.serde_json.specs.Data.{Members}
 use Rattle.serde_json.specs.View.{view, members_view}
 use Rattle.cdk_eval.specs.Template.{outcome}
-use Rattle.cdk_intrinsics.specs.Scopes.{scope_view}
-use Rattle.cdk_intrinsics.specs.declared.truths.Truths.{Truths}
+use Rattle.cdk_scopes.specs.Scopes.{scope_view}
+use Rattle.cdk_scopes.specs.declared.truths.Truths.{Truths}
 use Rattle.cdk_conditions.specs.Kept.{is_kept}
 use Rattle.cdk_conditions.specs.Walks.{Walks, IsWalk, IsStep, IsJoining, IsEntered, AreGrouped, positions_of, groups_of}
 use Rattle.cdk_conditions.specs.declared.walk.Walk.{Walk}

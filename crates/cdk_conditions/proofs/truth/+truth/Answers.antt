@@ -7,7 +7,7 @@ use Rattle.cdk_eval.specs.Conditions.{item_truths, part_truths, not_form, has_it
 use Rattle.cdk_eval.specs.Outcomes.{Holds}
 use Rattle.cdk_eval.specs.Template.{outcome}
 use Rattle.cdk_eval.specs.Views.{truth_view}
-use Rattle.cdk_intrinsics.specs.Scopes.{scope_view, truth_in}
+use Rattle.cdk_scopes.specs.Scopes.{scope_view, truth_in}
 use Rattle.cdk_conditions.specs.Kept.{few_by, hold_by, both_by, form_truth}
 use Rattle.cdk_conditions.proofs.Counts.{no_few, few_hold, both_end, both_fault, not_other}
 use Rattle.cdk_conditions.proofs.Forms.{truth_of_junction, truth_of_not}

@@ -3,7 +3,7 @@ use Rattle.serde_json.specs.View.{items_view}
 use Rattle.cdk_eval.specs.Conditions.{item_truths}
 use Rattle.cdk_eval.specs.Outcomes.{Holds}
 use Rattle.cdk_eval.specs.Template.{outcome}
-use Rattle.cdk_intrinsics.specs.Scopes.{scope_view, truth_in}
+use Rattle.cdk_scopes.specs.Scopes.{scope_view, truth_in}
 use Rattle.cdk_conditions.specs.Kept.{hold_by, both_by}
 use Rattle.cdk_conditions.proofs.truth.+truth.Given as goal
 

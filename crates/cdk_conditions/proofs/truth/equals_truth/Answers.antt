@@ -3,7 +3,7 @@ use Rattle.serde_json.specs.View.{view}
 use Rattle.serde_json.proofs.Views.{view-Array}
 use Rattle.cdk_eval.specs.Conditions.{equals_form}
 use Rattle.cdk_eval.specs.Template.{outcome}
-use Rattle.cdk_intrinsics.specs.Scopes.{scope_view}
+use Rattle.cdk_scopes.specs.Scopes.{scope_view}
 use Rattle.cdk_conditions.proofs.Counts.{equals_other}
 use Rattle.cdk_conditions.proofs.truth.equals_truth.Goals as goal
 

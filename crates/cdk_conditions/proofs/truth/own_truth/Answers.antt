@@ -4,7 +4,7 @@ use Rattle.serde_json.specs.View.{view}
 use Rattle.cdk_eval.specs.Conditions.{equals_form}
 use Rattle.cdk_eval.specs.Template.{outcome}
 use Rattle.cdk_eval.specs.Views.{truth_view}
-use Rattle.cdk_intrinsics.specs.Scopes.{scope_view, truth_in}
+use Rattle.cdk_scopes.specs.Scopes.{scope_view, truth_in}
 use Rattle.cdk_conditions.specs.Kept.{form_truth}
 use Rattle.cdk_conditions.proofs.Forms.{truth_of_equals, truth_of_name, truth_of_none}
 use Rattle.cdk_conditions.proofs.truth.own_truth.Goals as goal

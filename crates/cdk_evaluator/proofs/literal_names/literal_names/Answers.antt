@@ -5,7 +5,7 @@ use Rattle.cdk_eval.specs.Assembly.{entries, literal_name, literal_names}
 use Rattle.cdk_eval.specs.Reach.{is_among}
 use Rattle.cdk_eval.specs.Sections.{section}
 use Rattle.cdk_eval.specs.Views.{stack_view}
-use Rattle.cdk_intrinsics.specs.Scopes.{has_name}
+use Rattle.cdk_scopes.specs.Scopes.{has_name}
 use Rattle.cdk_evaluator.proofs.Lookups.{put_all}
 use Rattle.cdk_evaluator.proofs.literal_names.literal_names.Goals as goal
 

@@ -3,7 +3,7 @@ use Rattle.std.specs.Prelude.{◌||◌}
 use Rattle.cdk_eval.specs.Assembly.{literal_names}
 use Rattle.cdk_eval.specs.Reach.{is_among}
 use Rattle.cdk_eval.specs.Views.{stack_view}
-use Rattle.cdk_intrinsics.specs.Scopes.{has_name}
+use Rattle.cdk_scopes.specs.Scopes.{has_name}
 use Rattle.cdk_evaluator.proofs.literal_names.literal_names.Given as goal
 
 abbrev pub invariant-loop-stack : goal.invariant-loop-stack

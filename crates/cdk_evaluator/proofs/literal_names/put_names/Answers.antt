@@ -3,7 +3,7 @@ use Rattle.std.specs.Prelude.{◌||◌, filter_map}
 use Rattle.serde_json.specs.View.{view, members_view}
 use Rattle.cdk_eval.specs.Assembly.{entries, literal_name}
 use Rattle.cdk_eval.specs.Reach.{is_among}
-use Rattle.cdk_intrinsics.specs.Scopes.{has_name}
+use Rattle.cdk_scopes.specs.Scopes.{has_name}
 use Rattle.cdk_evaluator.proofs.Lookups.{put_more}
 use Rattle.cdk_evaluator.proofs.literal_names.put_names.Goals as goal
 

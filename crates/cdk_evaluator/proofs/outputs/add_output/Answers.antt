@@ -5,7 +5,7 @@ use Rattle.serde_json.specs.View.{view}
 use Rattle.cdk_eval.specs.Stack.{output_at, export_name, export_entry}
 use Rattle.cdk_eval.specs.Views.{output_entry}
 use Rattle.cdk_eval.specs.declared.report.OutputOut.{OutputOut}
-use Rattle.cdk_intrinsics.specs.Scopes.{scope_view, presence_of}
+use Rattle.cdk_scopes.specs.Scopes.{scope_view, presence_of}
 use Rattle.cdk_evaluator.specs.Made.{export_pair}
 use Rattle.cdk_evaluator.proofs.outputs.add_output.Goals as goal
 

@@ -2,7 +2,7 @@ use Rattle.std.proofs.Common.{[], ◌∷◌, ◌++◌, map, string_bytes, sym, a
 use Rattle.serde_json.specs.View.{view, members_view}
 use Rattle.cdk_eval.specs.Stack.{output_at, output_outcomes, export_name, export_entry, export_entries}
 use Rattle.cdk_eval.specs.Views.{output_entry}
-use Rattle.cdk_intrinsics.specs.Scopes.{scope_view, presence_of}
+use Rattle.cdk_scopes.specs.Scopes.{scope_view, presence_of}
 use Rattle.cdk_evaluator.specs.Made.{export_pair}
 use Rattle.cdk_evaluator.proofs.Lookups.{moved}
 use Rattle.cdk_evaluator.proofs.outputs.outputs_in.Goals as goal

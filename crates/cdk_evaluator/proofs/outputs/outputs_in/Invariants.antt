@@ -1,6 +1,6 @@
 use Rattle.std.proofs.Common.{◌≡◌, ◌++◌, map}
 use Rattle.serde_json.specs.View.{members_view}
-use Rattle.cdk_intrinsics.specs.Scopes.{scope_view, presence_of}
+use Rattle.cdk_scopes.specs.Scopes.{scope_view, presence_of}
 use Rattle.cdk_eval.specs.Stack.{output_outcomes, export_entries}
 use Rattle.cdk_eval.specs.Views.{output_entry}
 use Rattle.cdk_evaluator.specs.Made.{export_pair}

@@ -3,7 +3,7 @@ use Rattle.std.specs.Prelude.{bytes_eq}
 use Rattle.std.specs.Option.{option_or}
 use Rattle.std.proofs.lemmas.List.{drop_more}
 use Rattle.cdk_eval.specs.Stack.{lookup}
-use Rattle.cdk_intrinsics.specs.Scopes.{exports_view}
+use Rattle.cdk_scopes.specs.Scopes.{exports_view}
 use Rattle.cdk_evaluator.specs.Made.{export_pair}
 use Rattle.cdk_evaluator.proofs.Lookups.{lookup_step}
 use Rattle.cdk_evaluator.proofs.report.add_all.Goals as goal

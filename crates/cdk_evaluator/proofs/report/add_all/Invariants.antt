@@ -1,7 +1,7 @@
 use Rattle.std.proofs.Common.{◌≡◌, ℕ, List, drop, map}
 use Rattle.std.specs.Option.{option_or}
 use Rattle.cdk_eval.specs.Stack.{lookup}
-use Rattle.cdk_intrinsics.specs.Scopes.{exports_view}
+use Rattle.cdk_scopes.specs.Scopes.{exports_view}
 use Rattle.cdk_evaluator.specs.Made.{export_pair}
 use Rattle.cdk_evaluator.proofs.report.add_all.Given as goal
 

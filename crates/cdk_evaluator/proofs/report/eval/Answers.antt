@@ -5,7 +5,7 @@ use mathlib.Core.Path.{fun_ext}
 use Rattle.cdk_eval.specs.Assembly.{stack_outcomes}
 use Rattle.cdk_eval.specs.Stack.{lookup, stack_outcome, exports_after}
 use Rattle.cdk_eval.specs.Views.{values_view, stack_view, stack_out_view}
-use Rattle.cdk_intrinsics.specs.Scopes.{exports_view}
+use Rattle.cdk_scopes.specs.Scopes.{exports_view}
 use Rattle.cdk_evaluator.specs.Made.{export_pair}
 use Rattle.cdk_evaluator.proofs.report.eval.Goals as goal
 

@@ -1,7 +1,7 @@
 use Rattle.std.proofs.Common.{◌≡◌, ◌++◌, drop, map}
 use Rattle.cdk_eval.specs.Assembly.{assembly_outcome, stack_outcomes}
 use Rattle.cdk_eval.specs.Views.{values_view, assembly_view, stack_view, stack_out_view}
-use Rattle.cdk_intrinsics.specs.Scopes.{exports_view}
+use Rattle.cdk_scopes.specs.Scopes.{exports_view}
 use Rattle.cdk_evaluator.proofs.report.eval.Given as goal
 
 abbrev pub invariant-loop-stack : goal.invariant-loop-stack

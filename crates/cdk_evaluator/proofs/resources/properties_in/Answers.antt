@@ -3,7 +3,7 @@ use Rattle.std.proofs.lemmas.List.{map-append}
 use Rattle.serde_json.specs.View.{members_view}
 use Rattle.cdk_eval.specs.Template.{each_member}
 use Rattle.cdk_eval.specs.Views.{outcome_view, property_view}
-use Rattle.cdk_intrinsics.specs.Scopes.{scope_view}
+use Rattle.cdk_scopes.specs.Scopes.{scope_view}
 use Rattle.cdk_evaluator.proofs.Lookups.{moved}
 use Rattle.cdk_evaluator.proofs.resources.properties_in.Goals as goal
 

@@ -1,6 +1,6 @@
 use Rattle.std.proofs.Common.{◌≡◌, ◌++◌, map}
 use Rattle.serde_json.specs.View.{members_view}
-use Rattle.cdk_intrinsics.specs.Scopes.{scope_view}
+use Rattle.cdk_scopes.specs.Scopes.{scope_view}
 use Rattle.cdk_eval.specs.Template.{each_member}
 use Rattle.cdk_eval.specs.Views.{property_view}
 use Rattle.cdk_evaluator.proofs.resources.properties_in.Given as goal

@@ -3,7 +3,7 @@ use Rattle.std.proofs.lemmas.List.{map-append}
 use Rattle.serde_json.specs.View.{view, members_view}
 use Rattle.cdk_eval.specs.Stack.{resource_at, resource_outcomes}
 use Rattle.cdk_eval.specs.Views.{resource_view}
-use Rattle.cdk_intrinsics.specs.Scopes.{scope_view, presence_of}
+use Rattle.cdk_scopes.specs.Scopes.{scope_view, presence_of}
 use Rattle.cdk_evaluator.proofs.Lookups.{moved}
 use Rattle.cdk_evaluator.proofs.resources.resources_in.Goals as goal
 

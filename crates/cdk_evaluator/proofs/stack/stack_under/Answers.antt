@@ -3,7 +3,7 @@ use Rattle.std.specs.Prelude.{codes}
 use Rattle.cdk_eval.specs.Sections.{section, scope}
 use Rattle.cdk_eval.specs.Stack.{resource_outcomes, output_outcomes, export_entries}
 use Rattle.cdk_eval.specs.Views.{values_view, stack_view, resource_view, output_entry}
-use Rattle.cdk_intrinsics.specs.Scopes.{presence_of, exports_view}
+use Rattle.cdk_scopes.specs.Scopes.{presence_of, exports_view}
 use Rattle.cdk_evaluator.specs.Made.{export_pair}
 use Rattle.cdk_evaluator.proofs.Stacks.{same_stack, same_exports}
 use Rattle.cdk_evaluator.proofs.stack.stack_under.Goals as goal

@@ -2,7 +2,7 @@ use Rattle.std.proofs.Common.{ap, sym, ◌∙◌}
 use Rattle.serde_json.specs.View.{view}
 use Rattle.serde_json.proofs.Views.{view-Array}
 use Rattle.cdk_eval.specs.Template.{parts, att_form}
-use Rattle.cdk_intrinsics.specs.Scopes.{scope_view}
+use Rattle.cdk_scopes.specs.Scopes.{scope_view}
 use Rattle.cdk_intrinsics.proofs.Parts.{att_other}
 use Rattle.cdk_intrinsics.proofs.forms.att_form.Goals as goal
 

@@ -1,4 +1,4 @@
-use Rattle.cdk_intrinsics.specs.Scopes.{scope_view}
+use Rattle.cdk_scopes.specs.Scopes.{scope_view}
 use Rattle.cdk_intrinsics.proofs.Parts.{leaf_other}
 use Rattle.cdk_intrinsics.proofs.forms.leaf_among.Goals as goal
 

@@ -6,7 +6,7 @@ use Rattle.cdk_eval.specs.Outcomes.{Value}
 use Rattle.cdk_eval.specs.Sections.{section, made_text, resource_outcome}
 use Rattle.cdk_eval.specs.Values.{attribute_text}
 use Rattle.cdk_eval.specs.Views.{values_view}
-use Rattle.cdk_intrinsics.specs.Scopes.{scope_at, IsSoundAt}
+use Rattle.cdk_scopes.specs.Scopes.{scope_at, IsSoundAt}
 use Rattle.cdk_intrinsics.proofs.Made.{text_made}
 use Rattle.cdk_intrinsics.proofs.names.attribute_outcome.Goals as goal
 

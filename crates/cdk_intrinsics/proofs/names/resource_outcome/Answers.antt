@@ -6,7 +6,8 @@ use Rattle.cdk_eval.specs.Outcomes.{Value}
 use Rattle.cdk_eval.specs.Sections.{section, made_text, operand_resource}
 use Rattle.cdk_eval.specs.Values.{physical_text}
 use Rattle.cdk_eval.specs.Views.{values_view}
-use Rattle.cdk_intrinsics.specs.Scopes.{resource_in, IsSoundAt}
+use Rattle.cdk_scopes.specs.Scopes.{IsSoundAt}
+use Rattle.cdk_intrinsics.specs.Names.{resource_in}
 use Rattle.cdk_intrinsics.proofs.Made.{text_made, absent}
 use Rattle.cdk_intrinsics.proofs.names.resource_outcome.Goals as goal
 

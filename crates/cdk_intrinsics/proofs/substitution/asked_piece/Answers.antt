@@ -1,7 +1,7 @@
 use Rattle.std.proofs.Common.{refl, ap, sym, ◌∙◌}
 use Rattle.serde_json.specs.Data.{string}
 use Rattle.cdk_eval.specs.Outcomes.{Value}
-use Rattle.cdk_intrinsics.specs.Scopes.{scope_view}
+use Rattle.cdk_scopes.specs.Scopes.{scope_view}
 use Rattle.cdk_intrinsics.specs.Substitution.{look, asked_by}
 use Rattle.cdk_intrinsics.proofs.substitution.asked_piece.Goals as goal
 

@@ -2,7 +2,7 @@ use Rattle.std.proofs.Common.{refl, ap, sym, ◌∙◌}
 use Rattle.serde_json.specs.Data.{string}
 use Rattle.cdk_eval.specs.Outcomes.{Value}
 use Rattle.cdk_texts.specs.Steps.{part_view}
-use Rattle.cdk_intrinsics.specs.Scopes.{scope_view}
+use Rattle.cdk_scopes.specs.Scopes.{scope_view}
 use Rattle.cdk_intrinsics.specs.Substitution.{look, part_by}
 use Rattle.cdk_intrinsics.proofs.substitution.part_piece.Goals as goal
 

@@ -3,7 +3,7 @@ use Rattle.std.proofs.lemmas.Result.{IfOk-weaker}
 use Rattle.cdk_eval.specs.SubText.{sub_parts}
 use Rattle.cdk_eval.specs.Template.{sub_outcome}
 use Rattle.cdk_texts.specs.Steps.{part_view}
-use Rattle.cdk_intrinsics.specs.Scopes.{scope_view}
+use Rattle.cdk_scopes.specs.Scopes.{scope_view}
 use Rattle.cdk_intrinsics.specs.Substitution.{look, or_found, items_by, joined_items}
 use Rattle.cdk_intrinsics.proofs.Parts.{no_names}
 use Rattle.cdk_intrinsics.proofs.substitution.plain_sub.Goals as goal

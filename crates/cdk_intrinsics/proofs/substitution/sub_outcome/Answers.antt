@@ -3,7 +3,7 @@ use Rattle.std.proofs.lemmas.List.{drop_more}
 use Rattle.cdk_texts.specs.Steps.{part_view}
 use Rattle.cdk_texts.specs.declared.sub.Part.{Part}
 use Rattle.cdk_texts.specs.declared.sub.Part.TheVariants as parts
-use Rattle.cdk_intrinsics.specs.Scopes.{scope_view}
+use Rattle.cdk_scopes.specs.Scopes.{scope_view}
 use Rattle.cdk_intrinsics.specs.Substitution.{look, part_by, items_by, joined_items, finish, IsPieceOf}
 use Rattle.cdk_intrinsics.proofs.Parts.{finish_text, finish_no_text, finish_gone}
 use Rattle.cdk_intrinsics.proofs.substitution.sub_outcome.Goals as goal

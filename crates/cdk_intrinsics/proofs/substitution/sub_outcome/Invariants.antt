@@ -1,6 +1,6 @@
 use Rattle.std.proofs.Common.{◌≡◌, drop, map, string_bytes}
 use Rattle.cdk_texts.specs.Steps.{part_view}
-use Rattle.cdk_intrinsics.specs.Scopes.{scope_view}
+use Rattle.cdk_scopes.specs.Scopes.{scope_view}
 use Rattle.cdk_intrinsics.specs.Substitution.{look, items_by, joined_items, finish}
 use Rattle.cdk_intrinsics.proofs.substitution.sub_outcome.Given as goal
 

@@ -3,7 +3,7 @@ use Rattle.std.proofs.lemmas.List.{drop_more, drop_all}
 use Rattle.cdk_texts.specs.Steps.{part_view}
 use Rattle.cdk_texts.specs.declared.sub.Part.{Part}
 use Rattle.cdk_texts.specs.declared.sub.Part.TheVariants as parts
-use Rattle.cdk_intrinsics.specs.Scopes.{has_name}
+use Rattle.cdk_scopes.specs.Scopes.{has_name}
 use Rattle.cdk_intrinsics.specs.Substitution.{AreUsed}
 use Rattle.cdk_intrinsics.proofs.substitution.used_names.Goals as goal
 

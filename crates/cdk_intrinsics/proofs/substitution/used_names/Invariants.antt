@@ -1,6 +1,6 @@
 use Rattle.std.proofs.Common.{◌≡◌, ℕ, List, Bool, true, drop, map}
 use Rattle.cdk_texts.specs.Steps.{part_view}
-use Rattle.cdk_intrinsics.specs.Scopes.{has_name}
+use Rattle.cdk_scopes.specs.Scopes.{has_name}
 use Rattle.cdk_intrinsics.specs.Substitution.{AreUsed}
 use Rattle.cdk_intrinsics.proofs.substitution.used_names.Given as goal
 

@@ -11,16 +11,16 @@ use Rattle.serde_json.proofs.Views.{Entry, view-Array, view-Object}
 use Rattle.cdk_eval.specs.Outcomes.{array_outcome, object_outcome, first_item, first_member}
 use Rattle.cdk_eval.specs.Outcomes as outcomes
 use Rattle.cdk_eval.specs.SubText.{sub_parts}
-use Rattle.cdk_eval.specs.Template.{parts, outcome, item_outcomes, member_outcomes, single_form, if_form, map_form, sub_form, sub_items, each_member}
+use Rattle.cdk_eval.specs.Template.{parts, outcome, item_outcomes, member_outcomes, single_form, map_form, sub_form, sub_items, each_member}
 use Rattle.cdk_eval.specs.Views.{outcome_view}
 use Rattle.cdk_texts.specs.Steps.{part_view}
 use Rattle.cdk_texts.proofs.Cutting.{values_before-none}
 use Rattle.cdk_intrinsics.specs.Forms.{pair_form, map_listed, intrinsic_at, where_there}
 use Rattle.cdk_intrinsics.specs.Found.{put_outcome}
-use Rattle.cdk_intrinsics.specs.Scopes.{scope_view, has_name}
+use Rattle.cdk_scopes.specs.Scopes.{scope_view, has_name}
 use Rattle.cdk_intrinsics.specs.Substitution.{look, items_by, joined_items}
 use Rattle.cdk_intrinsics.proofs.Listing.{listed_before, listed_value, fielded_before, fielded_none, fielded_next, fielded_fault, before_nothing, AreAbove, above_none, all_above_next, sorted_rest}
-use Rattle.cdk_intrinsics.proofs.Parts.{pair_other, if_other, map_other, map_three, sub_two, items_same, form_same, view-String}
+use Rattle.cdk_intrinsics.proofs.Parts.{pair_other, map_other, map_three, sub_two, items_same, form_same, view-String}
 use Rattle.cdk_intrinsics.proofs.value.+evaluation.Goals as goal
 use Rattle.cdk_intrinsics.proofs.value.+evaluation.Goals.{array_outcome-in-Value+in_ok-push-in-Value, array_outcome-in-Gone}
 
@@ -29,10 +29,8 @@ pair_form-returns-in_default-two_of t c =
     let s = scope_view c.args.scope.now in
     pair_other s c.args.form c.in-Array.items.items c.in_default-two_of.ensures ∙ sym (ap (λ d. pair_form c.args.form (parts s d)) (ap view c.in-Array.is ∙ view-Array c.in-Array.items))
 
-pub if_form-returns-in_default-three_of : goal.if_form-returns-in_default-three_of
-if_form-returns-in_default-three_of t c =
-    let s = scope_view c.args.scope.now in
-    if_other s c.in-Array.items.items c.in_default-three_of.ensures ∙ sym (ap (λ d. if_form s (parts s d)) (ap view c.in-Array.is ∙ view-Array c.in-Array.items))
+pub if_form-returns : goal.if_form-returns
+if_form-returns t c = IfOk-weaker c.outcome_of.result _ _ (λ o h. h ∙ c.in-Ok.ensures.picked) c.outcome_of.ensures
 
 pub map_form-returns-in_default-three_of : goal.map_form-returns-in_default-three_of
 map_form-returns-in_default-three_of t c =

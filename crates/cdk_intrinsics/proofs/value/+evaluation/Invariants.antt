@@ -5,7 +5,7 @@ use Rattle.std.specs.String.{string_cmp}
 use Rattle.serde_json.specs.View.{items_view, members_view}
 use Rattle.cdk_eval.specs.Outcomes.{Outcome}
 use Rattle.cdk_eval.specs.Template.{item_outcomes, member_outcomes, each_member, named_or}
-use Rattle.cdk_intrinsics.specs.Scopes.{scope_view, has_name}
+use Rattle.cdk_scopes.specs.Scopes.{scope_view, has_name}
 use Rattle.cdk_intrinsics.specs.Substitution.{named_at, or_found}
 use Rattle.cdk_intrinsics.proofs.Listing.{listed_before, fielded_before, AreAbove}
 use Rattle.cdk_intrinsics.proofs.value.+evaluation.Given as goal

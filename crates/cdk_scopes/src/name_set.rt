@@ -1,5 +1,5 @@
 ghost use Rattle.std.specs.Prelude.{◌≡◌, ◌||◌, ℕ, List, false, OnOk, bytes_eq};
-ghost use Rattle.cdk_intrinsics.specs.Scopes.{has_name};
+ghost use Rattle.cdk_scopes.specs.Scopes.{has_name};
 
 use std::alloc::{AllocError, Global};
 use std::collections::BTreeMap;

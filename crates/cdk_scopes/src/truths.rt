@@ -1,7 +1,9 @@
 // The truths of a stack's conditions, each evaluated once and kept.
-ghost use Rattle.std.specs.Prelude.{◌≡◌, ℕ, List, Some, OnOk, if◌then◌else◌, bytes_eq, option_copied, None};
+ghost use Rattle.std.specs.Prelude.{◌≡◌, ℕ, List, Some, OnOk, if◌then◌else◌, bytes_eq, option_copied, None, true};
+ghost use Rattle.cdk_eval.specs.declared.fault.EvalFault.TheVariants.{ConditionLoop};
+ghost use Rattle.cdk_eval.specs.Outcomes.{Untold};
 ghost use Rattle.cdk_eval.specs.Views.{truth_view};
-ghost use Rattle.cdk_intrinsics.specs.Scopes.{kept_at, truth_in};
+ghost use Rattle.cdk_scopes.specs.Scopes.{kept_at, truth_in};
 
 use cdk_eval::{EvalFault, Truth};
 use std::alloc::{AllocError, Global};
@@ -12,6 +14,19 @@ use std::collections::BTreeMap;
 pub struct Kept {
     pub truth: Truth,
     pub is_loop: bool,
+}
+
+impl Kept {
+    /// Of a condition that reaches itself.
+    pub fn looping() -> Kept
+        ensures truth { truth_view result.truth ≡ Untold ConditionLoop }
+        ensures is_loop { result.is_loop ≡ true }
+    {
+        Kept {
+            truth: Truth::Untold(EvalFault::ConditionLoop),
+            is_loop: true,
+        }
+    }
 }
 
 /// The conditions that are evaluated, by their names.

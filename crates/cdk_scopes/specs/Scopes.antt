@@ -1,28 +1,28 @@
 -- What the code's scopes stand for.
-use Rattle.std.specs.Prelude.{◌≡◌, ℕ, List, Bool, true, false, Option, Some, None, if◌then◌else◌, is_some, option_map, codes, string_bytes}
+use Rattle.std.specs.Prelude.{◌≡◌, ℕ, List, Bool, true, Option, Some, None, if◌then◌else◌, is_some, option_map, codes, string_bytes}
 use Rattle.std.specs.Option.{option_or}
 use Rattle.std.specs.Ordering.{nat_cmp}
 use Rattle.std.specs.Cmp.Lexicographic.{slice_cmp}
 use Rattle.std.specs.BTreeMap.{BTreeMap, get_by, get_by_text}
 use denote.Ref.{Bor}
 use Rattle.serde_json.specs.Data.{Data, string}
-use Rattle.serde_json.specs.Find.{get, get_member}
+use Rattle.serde_json.specs.Find.{get}
 use Rattle.serde_json.specs.View.{view}
 use Rattle.cdk_eval.specs.declared.fault.EvalFault.{EvalFault}
 use Rattle.cdk_eval.specs.declared.fault.EvalFault.TheVariants.{UnknownName, BadIntrinsic}
 use Rattle.cdk_eval.specs.declared.values.Values.{Values as RustValues}
 use Rattle.cdk_eval.specs.Outcomes.{Outcome, Value, Fault, Truth, Holds, Untold}
-use Rattle.cdk_eval.specs.Sections.{section, operand_resource, resource_outcome, condition_truth, operand_scope, scope}
+use Rattle.cdk_eval.specs.Sections.{condition_truth, operand_scope, scope}
 use Rattle.cdk_eval.specs.Template.{Scope as SpecScope}
-use Rattle.cdk_eval.specs.Values.{Values, physical_text}
+use Rattle.cdk_eval.specs.Values.{Values}
 use Rattle.cdk_eval.specs.Views.{truth_view, values_view}
-use Rattle.cdk_intrinsics.specs.declared.name_set.NameSet.{NameSet}
-use Rattle.cdk_intrinsics.specs.declared.truths.Kept.{Kept}
-use Rattle.cdk_intrinsics.specs.declared.truths.Truths.{Truths}
-use Rattle.cdk_intrinsics.specs.declared.exports.Exports.{Exports}
-use Rattle.cdk_intrinsics.specs.declared.scope.Place.{Place}
-use Rattle.cdk_intrinsics.specs.declared.scope.Place.TheVariants.{Operand, Body}
-use Rattle.cdk_intrinsics.specs.declared.scope.Scope.{Scope}
+use Rattle.cdk_scopes.specs.declared.name_set.NameSet.{NameSet}
+use Rattle.cdk_scopes.specs.declared.truths.Kept.{Kept}
+use Rattle.cdk_scopes.specs.declared.truths.Truths.{Truths}
+use Rattle.cdk_scopes.specs.declared.exports.Exports.{Exports}
+use Rattle.cdk_scopes.specs.declared.scope.Place.{Place}
+use Rattle.cdk_scopes.specs.declared.scope.Place.TheVariants.{Operand, Body}
+use Rattle.cdk_scopes.specs.declared.scope.Scope.{Scope}
 
 -- ---- conditions
 
@@ -80,11 +80,3 @@ IsSoundAt v n t (Body truths exports) = AreTruths v n t truths.now
 
 abbrev pub IsSound : Scope → Type 0
 IsSound s = IsSoundAt (values_view s.values.now) s.stack.now (view s.template.now) s.place
-
--- `Ref` of a name that is no pseudo parameter and no parameter
-abbrev pub resource_in : Values → List ℕ → Data → Place → List ℕ → Outcome
-resource_in v n t Operand l = operand_resource (get_member l (section (codes "Resources") t))
-resource_in v n t (Body truths exports) l = resource_outcome v n t (physical_text v n l) (get_member l (section (codes "Resources") t))
-
-abbrev pub resource_at : Scope → List ℕ → Outcome
-resource_at s l = resource_in (values_view s.values.now) s.stack.now (view s.template.now) s.place l

@@ -1,7 +1,7 @@
 use Rattle.std.proofs.Common.{◌≡◌, Bool, true, false, cond, Option, Some, refl, ap, ◌∙◌}
 use Rattle.std.specs.Prelude.{◌||◌, is_some, bytes_eq}
 use Rattle.std.proofs.lemmas.Map.Text.{btree_map_updates_str}
-use Rattle.cdk_intrinsics.proofs.name_set.NameSet.put.Goals as goal
+use Rattle.cdk_scopes.proofs.name_set.NameSet.put.Goals as goal
 
 either : {X : Type 0} (b : Bool) (x : X) (o : Option X) → is_some (cond b (Some x) o) ≡ b || is_some o
 either true x o = refl

@@ -1,7 +1,7 @@
 // The exports that are there before a stack.
 ghost use Rattle.std.specs.Prelude.{◌≡◌, ℕ, List, Some, OnOk, if◌then◌else◌, bytes_eq, option_map};
 ghost use Rattle.std.specs.Option.{option_or};
-ghost use Rattle.cdk_intrinsics.specs.Scopes.{exports_view, outside_of};
+ghost use Rattle.cdk_scopes.specs.Scopes.{exports_view, outside_of};
 
 use crate::NameSet;
 use cdk_eval::Values;

@@ -3,7 +3,7 @@ ghost use Rattle.std.specs.Prelude.{◌≡◌, ℕ, List};
 ghost use Rattle.serde_json.specs.View.{view};
 ghost use Rattle.cdk_eval.specs.Sections.{made_text};
 ghost use Rattle.cdk_eval.specs.Views.{truth_view};
-ghost use Rattle.cdk_intrinsics.specs.Scopes.{presence_of, text_unless};
+ghost use Rattle.cdk_scopes.specs.Scopes.{presence_of, text_unless};
 
 use crate::Truths;
 use cdk_base::Value;

@@ -4,8 +4,8 @@ use Rattle.std.specs.Option.{option_or}
 use Rattle.std.specs.BTreeMap.{get_by_text}
 use Rattle.std.proofs.lemmas.Map.Text.{btree_map_updates_text}
 use Rattle.std.proofs.lemmas.Slice.Eq.{bytes_eq-Decides}
-use Rattle.cdk_intrinsics.specs.Scopes.{exports_view, outside_of}
-use Rattle.cdk_intrinsics.proofs.exports.Exports.add.Goals as goal
+use Rattle.cdk_scopes.specs.Scopes.{exports_view, outside_of}
+use Rattle.cdk_scopes.proofs.exports.Exports.add.Goals as goal
 
 or_none : (o : Option (List ℕ)) → option_or o None ≡ o
 or_none None = refl
