@@ -6,14 +6,21 @@ use std::alloc::Global;
 /// Applications, told by the fault in the line that `synth` refuses one with.
 pub struct Applications;
 
+fn told_in(alloc: Global, world: &mut World, application: &str) -> Result<String, Trouble> {
+    world.set_application(application)?;
+    let status = world.synth(alloc)?;
+    Ok(String::from_str(alloc, world.refusal(status))?)
+}
+
 impl Group for Applications {
     fn name(&self) -> &'static str {
         "applications"
     }
 
     fn told(&self, alloc: Global, document: &str) -> Result<String, Trouble> {
-        let mut world = World::of_application(alloc, document)?;
-        let status = world.synth(alloc)?;
-        Ok(String::from_str(alloc, world.refusal(status))?)
+        let mut world = World::ample(alloc)?;
+        let told = told_in(alloc, &mut world, document);
+        drop(world);
+        told
     }
 }

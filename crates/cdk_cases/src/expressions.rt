@@ -1,9 +1,11 @@
 // Expressions of one application: what its template holds for them, and what that comes to.
 use crate::members::parsed;
 use crate::world::World;
-use cdk_outside::{Files, MemFiles};
+use cdk_base::Value;
+use cdk_memory::MemFiles;
+use cdk_outside::Files;
 use cdk_tally::{Group, Trouble, text_of_file};
-use std::alloc::Global;
+use std::alloc::{AllocError, Global};
 
 /// Expressions, each told by what the template holds for it, and by what that comes to under the values; or by the fault
 /// that `synth` refuses the application with. The expression stands in the application in place of the text `@`, as the
@@ -14,10 +16,17 @@ pub struct Expressions {
     values: String,
 }
 
-fn property_in(alloc: Global, template: &str) -> Result<String, Trouble> {
-    let template = parsed(alloc, template)?;
+fn property_in(alloc: Global, template: &Value) -> Result<String, Trouble> {
     let property = template.pointer("/Resources/R/Properties/P");
     Ok(property.ok_or(Trouble::Data)?.to_string(alloc)?)
+}
+
+// The property `P` in a template's text.
+fn property_of(alloc: Global, template: &str) -> Result<String, Trouble> {
+    let template = parsed(alloc, template)?;
+    let property = property_in(alloc, &template);
+    drop(template);
+    property
 }
 
 fn text_at<'a>(files: &'a MemFiles, name: &str) -> Result<&'a str, Trouble> {
@@ -33,8 +42,9 @@ fn outcome_in(report: &[u8]) -> Option<&str> {
     Some(outcome)
 }
 
-fn told_of(alloc: Global, mut world: World) -> Result<String, Trouble> {
-    let mut told = property_in(alloc, text_at(&world.files, "out/S.template.json")?)?;
+// What is told where the template stands.
+fn told_of(alloc: Global, world: &mut World) -> Result<String, Trouble> {
+    let mut told = property_of(alloc, text_at(&world.files, "out/S.template.json")?)?;
     world.eval(alloc)?;
     told.push_str(outcome_in(world.out.bytes()).unwrap_or(" no outcome"))?;
     Ok(told)
@@ -51,11 +61,30 @@ impl Expressions {
         })
     }
 
-    fn world_of(&self, alloc: Global, expression: &str) -> Result<World, Trouble> {
+    // Sets the application with the expression, and the values.
+    fn set_files(
+        &self,
+        alloc: Global,
+        world: &mut World,
+        expression: &str,
+    ) -> Result<(), AllocError> {
         let application = self.application.replace(alloc, "\"@\"", expression)?;
-        let mut world = World::of_application(alloc, application.as_str())?;
-        world.files.add("v.json", self.values.as_bytes())?;
-        Ok(world)
+        world.set_application(application.as_str())?;
+        world.files.add("v.json", self.values.as_bytes())
+    }
+
+    fn told_in(
+        &self,
+        alloc: Global,
+        world: &mut World,
+        expression: &str,
+    ) -> Result<String, Trouble> {
+        self.set_files(alloc, world, expression)?;
+        let status = world.synth(alloc)?;
+        if status.number() != 0 {
+            return Ok(String::from_str(alloc, world.refusal(status))?);
+        }
+        told_of(alloc, world)
     }
 }
 
@@ -65,11 +94,9 @@ impl Group for Expressions {
     }
 
     fn told(&self, alloc: Global, document: &str) -> Result<String, Trouble> {
-        let mut world = self.world_of(alloc, document)?;
-        let status = world.synth(alloc)?;
-        if status.number() != 0 {
-            return Ok(String::from_str(alloc, world.refusal(status))?);
-        }
-        told_of(alloc, world)
+        let mut world = World::ample(alloc)?;
+        let told = self.told_in(alloc, &mut world, document);
+        drop(world);
+        told
     }
 }

@@ -5,7 +5,8 @@ use crate::outcome::miss;
 use crate::words::words_of;
 use crate::world::World;
 use cdk_base::{Map, Value};
-use cdk_outside::{Files, MemFiles};
+use cdk_memory::MemFiles;
+use cdk_outside::Files;
 use cdk_tally::{Tally, Trouble, text_of_file};
 use cdk_words::Status;
 use std::alloc::Global;
@@ -52,17 +53,16 @@ fn add_files<F: Files>(
     Ok(())
 }
 
-// The files of a case, one of them cut if it is one that cuts.
-fn world_of<F: Files>(
+// Adds the files of a case, one of them cut if it is one that cuts.
+fn add_case<F: Files>(
     alloc: Global,
     source: &mut F,
+    files: &mut MemFiles,
     case: &Value,
     cut: Option<Cut>,
-) -> Result<World, Trouble> {
+) -> Result<(), Trouble> {
     let rules = object_member(case, "files")?;
-    let mut world = World::new(alloc, case)?;
-    add_files(alloc, source, &mut world.files, rules, cut)?;
-    Ok(world)
+    add_files(alloc, source, files, rules, cut)
 }
 
 // Runs the words that a case has by the key.
@@ -79,6 +79,19 @@ fn run_case(alloc: Global, case: &Value, world: &mut World) -> Result<Status, Tr
     run_words(alloc, case, "words", world)
 }
 
+// What is wrong with a run of the case where no file is yet, or an empty text.
+fn told_in<F: Files>(
+    alloc: Global,
+    source: &mut F,
+    world: &mut World,
+    case: &Value,
+    cut: Option<Cut>,
+) -> Result<&'static str, Trouble> {
+    add_case(alloc, source, &mut world.files, case, cut)?;
+    let status = run_case(alloc, case, world)?;
+    miss(alloc, source, case, world, status)
+}
+
 // What is wrong with a run of the case, or an empty text.
 fn told<F: Files>(
     alloc: Global,
@@ -86,9 +99,10 @@ fn told<F: Files>(
     case: &Value,
     cut: Option<Cut>,
 ) -> Result<&'static str, Trouble> {
-    let mut world = world_of(alloc, source, case, cut)?;
-    let status = run_case(alloc, case, &mut world)?;
-    miss(alloc, source, case, &world, status)
+    let mut world = World::new(alloc, case)?;
+    let told = told_in(alloc, source, &mut world, case, cut);
+    drop(world);
+    told
 }
 
 fn try_run<F: Files>(
@@ -143,6 +157,7 @@ fn try_case<F: Files>(
     try_run(alloc, source, case, None, name, tally)
 }
 
+// Tries each case, and ends the group.
 fn try_cases<F: Files>(
     alloc: Global,
     source: &mut F,
@@ -152,7 +167,7 @@ fn try_cases<F: Files>(
     for case in items_of(cases)? {
         try_case(alloc, source, case, tally)?;
     }
-    Ok(())
+    Ok(tally.end("runs")?)
 }
 
 fn cases_of<F: Files>(alloc: Global, source: &mut F) -> Result<Value, Trouble> {
@@ -166,7 +181,7 @@ fn cases_of<F: Files>(alloc: Global, source: &mut F) -> Result<Value, Trouble> {
 /// `failingErr` (numbers of calls), and `prefixesOf` (a file to cut at each place).
 pub fn try_runs<F: Files>(alloc: Global, source: &mut F, tally: &mut Tally) -> Result<(), Trouble> {
     let cases = cases_of(alloc, source)?;
-    try_cases(alloc, source, &cases, tally)?;
-    tally.end("runs")?;
-    Ok(())
+    let tried = try_cases(alloc, source, &cases, tally);
+    drop(cases);
+    tried
 }

@@ -1,11 +1,11 @@
 // Files and streams in memory for one run.
 use crate::members::items_of;
 use cdk_base::{List, Text, Value};
-use cdk_outside::{MemFiles, MemSink};
+use cdk_memory::{MemFiles, MemSink};
 use cdk_tally::{Trouble, texts_of};
 use cdk_tool::run;
 use cdk_words::Status;
-use std::alloc::Global;
+use std::alloc::{AllocError, Global};
 
 // Room for the directories and the bytes that a run writes, where its case gives none.
 const DIRECTORIES: usize = 10;
@@ -69,11 +69,17 @@ impl World {
         Ok(World { files, out, err })
     }
 
-    /// The application in `app.json`, and ample room.
-    pub fn of_application(alloc: Global, application: &str) -> Result<Self, Trouble> {
-        let mut world = World::new(alloc, &Value::Null)?;
-        world.files.add("app.json", application.as_bytes())?;
-        Ok(world)
+    /// No files yet, ample room, and no call that fails.
+    pub fn ample(alloc: Global) -> Result<Self, AllocError> {
+        let out = MemSink::new(alloc, List::new(alloc), ROOM)?;
+        let err = MemSink::new(alloc, List::new(alloc), ROOM)?;
+        let files = MemFiles::new(alloc, List::new(alloc), DIRECTORIES, ROOM)?;
+        Ok(World { files, out, err })
+    }
+
+    /// Sets the application in `app.json`.
+    pub fn set_application(&mut self, application: &str) -> Result<(), AllocError> {
+        self.files.add("app.json", application.as_bytes())
     }
 
     /// Runs the tool over it with these words.

@@ -1,6 +1,7 @@
 // Files and streams in memory.
 use cdk_base::List;
-use cdk_outside::{Files, MemFiles, MemSink, ReadError, Sink};
+use cdk_memory::{MemFiles, MemSink};
+use cdk_outside::{Files, ReadError, Sink};
 use cdk_tally::{Tally, Trouble};
 use std::alloc::{AllocError, Global};
 
