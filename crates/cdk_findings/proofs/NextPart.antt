@@ -1,7 +1,6 @@
 -- The walk's next item or member: what is found in it is found first, and where nothing is, the rest decides.
-use Rattle.std.proofs.Common.{◌≡◌, ℕ, ◌+◌, ◌<◌, List, ◌∷◌, drop, get_or, length, Bool, false, Some, None, string_bytes, sym, ap, ◌∙◌}
+use Rattle.std.proofs.Common.{◌≡◌, ℕ, ◌+◌, List, ◌∷◌, Bool, false, Some, None, string_bytes, sym, ap, ◌∙◌}
 use Rattle.std.specs.Prelude.{decimal}
-use Rattle.std.proofs.lemmas.List.{drop_more}
 use Rattle.serde_json.specs.View.{view, items_view, members_view}
 use Rattle.serde_json.specs.declared.value.Value.{Value}
 use Rattle.serde_json.proofs.Views.{Entry}
@@ -12,9 +11,6 @@ use Rattle.cdk_language.specs.declared.finding.Finding.{Finding}
 use Rattle.cdk_language.specs.declared.schema.Frame.{Frame}
 use Rattle.cdk_language.specs.declared.schema.Role.{Role}
 use Rattle.cdk_findings.proofs.Firsts.{some_first, none_first}
-
-pub next_item : (vs : List Value) (i : ℕ) (v : Value) → i < length vs → v ≡ get_or vs i v → drop i vs ≡ v ∷ drop (i + 1) vs
-next_item vs i v h e = drop_more vs i v h ∙ ap (λ x. x ∷ drop (i + 1) vs) (sym e)
 
 pub item_found : (role : Role) (n : ℕ) (v : Value) (vs : List Value) (r : Role) (f : Finding) → r ≡ item_role role n → Some f ≡ first (findings_at false r (view v))
     → Some (under (decimal n) f) ≡ first (in_items role n (items_view (v ∷ vs)))

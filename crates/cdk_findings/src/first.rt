@@ -1,63 +1,18 @@
 // The walk over a document: the first finding in pre-order, with keys in byte order.
 ghost use Rattle.std.specs.Prelude.{◌≡◌, Some, IfOk};
 ghost use Rattle.serde_json.specs.View.{view, items_view, members_view};
-ghost use Rattle.cdk_language.specs.Findings.{is_fraction as spec_is_fraction, is_marked_text as spec_is_marked_text, own, here, findings_at, findings, in_items, in_members, first};
+ghost use Rattle.cdk_language.specs.Findings.{here, findings_at, findings, in_items, in_members, first};
 ghost use Rattle.cdk_language.specs.Schema.{frame_of as spec_frame_of};
 
-use crate::pointer::{under, under_index};
-use crate::roles::{frame_of, item_role, member_role};
-use crate::runs::is_joined_marked;
-use crate::shapes::is_wrong;
 use cdk_base::{Code, Map, Text, Value, has_marker};
 use cdk_language::{Finding, Role};
+use cdk_places::{first_own, frame_of, item_role, member_role, under, under_index};
 use std::alloc::{AllocError, Global};
 
 /// How much is walked at most in search of runs, in bytes of texts and 16 for each expression. Subs may put in what
 /// doubles at each level: beyond this the answer is want of memory. An application within the limits on sizes and
 /// depth walks at most 32 times 16,000,000, and the names between `${` and `}`.
 const MOST_WALKED: u64 = 1_000_000_000;
-
-fn is_fraction(value: &Value) -> bool
-    ensures { result ≡ spec_is_fraction (view value.now) }
-{
-    match value {
-        Value::Number(n) => n.is_f64(),
-        _ => false,
-    }
-}
-
-fn is_marked_text(value: &Value) -> bool
-    ensures { result ≡ spec_is_marked_text (view value.now) }
-{
-    match value {
-        Value::String(text) => has_marker(text.as_str()),
-        _ => false,
-    }
-}
-
-/// The lowest code that is found at the value's own place.
-fn first_own(
-    left: &mut u64,
-    marked: bool,
-    role: Role,
-    value: &Value,
-) -> Result<Option<Code>, AllocError>
-    ensures { IfOk result (λ code. code ≡ first (own marked role (view value.now))) }
-{
-    if is_wrong(role, value) {
-        return Ok(Some(Code::Shape));
-    }
-    if is_fraction(value) {
-        return Ok(Some(Code::Number));
-    }
-    if marked || is_marked_text(value) {
-        return Ok(Some(Code::LiteralMarker));
-    }
-    if is_joined_marked(left, role, value)? {
-        return Ok(Some(Code::LiteralMarker));
-    }
-    Ok(None)
-}
 
 /// The finding at the value's own place.
 fn found_here(alloc: Global, code: Code) -> Result<Option<Finding>, AllocError>

@@ -2,11 +2,5 @@
 #![tactic(auto)]
 
 mod first;
-mod forms;
-mod pointer;
-mod roles;
-mod runs;
-mod shapes;
-mod texts;
 
 pub use first::first_finding;

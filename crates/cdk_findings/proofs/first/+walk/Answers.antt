@@ -5,7 +5,8 @@ use Rattle.serde_json.specs.View.{view, items_view, members_view}
 use Rattle.serde_json.proofs.Views.{Entry, view-Array, view-Object}
 use Rattle.cdk_language.specs.Findings.{inside, in_items, in_members, first}
 use Rattle.cdk_findings.proofs.Firsts.{own_first, own_none}
-use Rattle.cdk_findings.proofs.NextPart.{next_item, item_found, item_passed, member_found, member_passed}
+use Rattle.cdk_findings.proofs.NextPart.{item_found, item_passed, member_found, member_passed}
+use Rattle.cdk_runs.proofs.NextItem.{next_item}
 use Rattle.cdk_findings.proofs.first.+walk.Goals as goal
 
 pub first_at-returns-in-Some : goal.first_at-returns-in-Some

@@ -1,0 +1,4 @@
+pub mod NextItem
+pub mod Numerals
+pub mod Opening
+pub mod SubRuns
