@@ -1,6 +1,6 @@
-//! Runs the tool over files and streams in memory: applications that `synth` refuses, by their fault; expressions, by what
-//! a template holds for them and by what that comes to; and whole runs of both commands. It prints each case that comes
-//! out otherwise, and how many there were.
+//! Runs the worked cases: those of the crates below the tool, and then the tool over files and streams in memory:
+//! applications that `synth` refuses, by their fault; expressions, by what a template holds for them and by what that comes
+//! to; and whole runs of both commands. It prints each case that comes out otherwise, and how many there were.
 #![tactic(auto)]
 
 mod applications;
@@ -16,14 +16,25 @@ use crate::applications::Applications;
 use crate::expressions::Expressions;
 use crate::runs::try_runs;
 use cdk_outside::{DiskFiles, Files, StdSink};
+use cdk_pass_cases::try_pass_cases;
 use cdk_tally::{Tally, Trouble, print, try_group};
 use std::alloc::Global;
 use std::process::ExitCode;
 
-fn try_groups<F: Files>(alloc: Global, source: &mut F, tally: &mut Tally) -> Result<(), Trouble> {
-    try_group(alloc, source, &Applications, tally)?;
+// Tries the rows of expressions, each in the application of `data/`.
+fn try_expressions<F: Files>(
+    alloc: Global,
+    source: &mut F,
+    tally: &mut Tally,
+) -> Result<(), Trouble> {
     let expressions = Expressions::new(alloc, source)?;
-    try_group(alloc, source, &expressions, tally)?;
+    try_group(alloc, source, &expressions, tally)
+}
+
+fn try_groups<F: Files>(alloc: Global, source: &mut F, tally: &mut Tally) -> Result<(), Trouble> {
+    try_pass_cases(alloc, source, tally)?;
+    try_group(alloc, source, &Applications, tally)?;
+    try_expressions(alloc, source, tally)?;
     try_runs(alloc, source, tally)
 }
 

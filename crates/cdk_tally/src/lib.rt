@@ -1,4 +1,4 @@
-//! What the programs of worked cases share: groups of rows, what came of the cases, and files of the folder `data/`.
+//! What worked cases share: groups of rows, what came of the cases, and files of the folder `data/`.
 #![tactic(auto)]
 
 mod data;
