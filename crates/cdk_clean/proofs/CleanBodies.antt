@@ -27,7 +27,7 @@ use Rattle.cdk_language.specs.declared.schema.Role.{Role}
 use Rattle.cdk_language.specs.declared.schema.Role.TheVariants as roles
 use Rattle.cdk_language.specs.declared.schema.Schema.{Schema}
 use Rattle.cdk_language.specs.declared.schema.Within.TheVariants as within
-use Rattle.cdk_tokens.specs.Whole.{expressions_in}
+use Rattle.cdk_contexts.specs.Expressions.{expressions_in}
 use Rattle.cdk_written.proofs.ReadExpressions.{All, made, made_then, mapped, then}
 
 -- ---- properties

@@ -16,7 +16,7 @@ use Rattle.cdk_language.specs.Schema.{condition_member}
 use Rattle.cdk_language.specs.declared.schema.Frame.TheVariants as frames
 use Rattle.cdk_language.specs.declared.schema.Role.TheVariants as roles
 use Rattle.cdk_language.specs.declared.schema.Within.TheVariants as within
-use Rattle.cdk_tokens.specs.Whole.{operands_of, operands_of_all}
+use Rattle.cdk_contexts.specs.Expressions.{operands_of, operands_of_all}
 use Rattle.cdk_written.proofs.ReadExpressions.{All, made, mapped, then}
 
 abbrev pub HasCleanOperands : Condition → Type 0

@@ -15,7 +15,7 @@ use Rattle.cdk_language.specs.Expression as expression
 use Rattle.cdk_language.specs.Expression.{Expression, Expressions, Fields}
 use Rattle.cdk_language.specs.Findings.{setting_findings}
 use Rattle.cdk_meaning.specs.Names.{Each}
-use Rattle.cdk_tokens.specs.Whole.{expressions_in}
+use Rattle.cdk_contexts.specs.Expressions.{expressions_in}
 use Rattle.cdk_tree.specs.Placed.{Placed, construct_at, constructs_of, placed_in, root_placed, walk, walk_children}
 
 -- ---- expressions of a construct whose contexts are clean

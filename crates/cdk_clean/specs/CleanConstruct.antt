@@ -6,7 +6,7 @@ use Rattle.cdk_expansion.specs.Clean.{IsClean, ListIsClean, is_clean_value}
 use Rattle.cdk_language.specs.Construct as construct
 use Rattle.cdk_language.specs.Construct.{Construct, Constructs}
 use Rattle.cdk_language.specs.Expression.{Expression}
-use Rattle.cdk_tokens.specs.Whole.{expressions_in}
+use Rattle.cdk_contexts.specs.Expressions.{expressions_in}
 
 -- where no context is told a Context finds its default alone
 abbrev pub IsCleanAlone : Expression → Type 0

@@ -18,7 +18,7 @@ use Rattle.cdk_plain.specs.Plain as plain
 use Rattle.cdk_plain.specs.Plain.{Plain}
 use Rattle.cdk_plain.specs.Rendered.{Homes, Local}
 use Rattle.cdk_stacks.specs.Names.{logical_name, stack_name}
-use Rattle.cdk_tokens.specs.Whole.{operands_of}
+use Rattle.cdk_contexts.specs.Expressions.{operands_of}
 use Rattle.cdk_tree.specs.Expected.{is_condition, is_mapping, is_parameter, is_resource}
 use Rattle.cdk_tree.specs.Placed.{Placed, construct_at, find_path}
 use Rattle.cdk_elements.specs.Kinds.{of_kind}

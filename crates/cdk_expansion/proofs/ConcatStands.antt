@@ -26,7 +26,7 @@ use Rattle.cdk_expansion.proofs.ConcatMerged.{part_of, assembled-merged}
 use Rattle.cdk_expansion.proofs.LiteralFound.{clean_has_text, whole_has_text}
 use Rattle.cdk_expansion.proofs.LiteralPlain.{PiecesAreNoListMarker}
 use Rattle.cdk_expansion.proofs.ValueKeys.{is_key-key_of}
-use Rattle.cdk_tokens.specs.Contexts.{literals_of, pieces_literals}
+use Rattle.cdk_contexts.specs.Contexts.{literals_of, pieces_literals}
 use Rattle.cdk_tokens.specs.Marking.{count, hint, marked, marked_text}
 use Rattle.cdk_tokens.specs.Token.{key_of, marker}
 use Rattle.cdk_tree.specs.Expected.{is_array_or_object, finds_no_text}

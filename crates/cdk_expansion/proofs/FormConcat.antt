@@ -19,7 +19,7 @@ use Rattle.cdk_expansion.proofs.FormMade.{AllMade, Made, MadeOne}
 use Rattle.cdk_expansion.proofs.FormPieces.{HaveTexts, IsFine, pieces_are_fine}
 use Rattle.cdk_expansion.proofs.LiteralFound.{clean_has_text, whole_has_text}
 use Rattle.cdk_expansion.proofs.ValueKeys.{is_key-key_of}
-use Rattle.cdk_tokens.specs.Contexts.{literals_of, pieces_literals}
+use Rattle.cdk_contexts.specs.Contexts.{literals_of, pieces_literals}
 use Rattle.cdk_tokens.specs.Marking.{count, hint, marked, marked_text}
 use Rattle.cdk_tokens.specs.Token.{Token, key_of, marker}
 use Rattle.cdk_tokens.specs.Values.{is_text_token}

@@ -10,7 +10,8 @@ use Rattle.cdk_tree.proofs.Tests.{same_some}
 use Rattle.cdk_tokens.specs.Marking.{count, marked, tokens}
 use Rattle.cdk_tokens.specs.Token.{Token}
 use Rattle.cdk_tokens.specs.Whole as whole
-use Rattle.cdk_tokens.specs.Whole.{MarkedBody, count_in, expressions_in, marked_body, marked_from, marked_list, operand_in, operands_of, tokens_from, tokens_of, tokens_of_list}
+use Rattle.cdk_contexts.specs.Expressions.{expressions_in, operands_of}
+use Rattle.cdk_tokens.specs.Whole.{MarkedBody, count_in, marked_body, marked_from, marked_list, operand_in, tokens_from, tokens_of, tokens_of_list}
 use Rattle.cdk_expansion.specs.Laws.{IsSound}
 use Rattle.cdk_expansion.specs.MarkerForms.{HasRightMarkers, OperandsHaveRightMarkers, ValuesHaveRightMarkers}
 use Rattle.cdk_expansion.specs.Right.{ListIsRight}

@@ -9,7 +9,7 @@ use Rattle.cdk_language.specs.Construct.{Application, Construct, Head, child, co
 use Rattle.cdk_language.specs.Expression.{Expression, concat, context, expression, field, no_expressions, no_fields, object, ref, text}
 use Rattle.cdk_tree.specs.Expected.{target_findings}
 use Rattle.cdk_tree.specs.Placed.{Placed, constructs_of}
-use Rattle.cdk_tokens.specs.Contexts.{context_findings}
+use Rattle.cdk_contexts.specs.Contexts.{context_findings}
 use Rattle.cdk_tokens.specs.Whole.{tokens_of}
 use Rattle.cdk_expansion.specs.Clean.{TreeIsClean}
 use Rattle.cdk_expansion.specs.Laws.{IsSound}

@@ -11,8 +11,8 @@ use Rattle.cdk_language.specs.Construct.{Body}
 use Rattle.cdk_language.specs.Expression.{Expression}
 use Rattle.cdk_tree.specs.Expected.{expected, expected_body, expected_condition, expected_conditions, expected_when}
 use Rattle.cdk_tree.specs.Placed.{Placed, construct_at}
-use Rattle.cdk_tokens.specs.Contexts.{has_marked_run, misses_context}
-use Rattle.cdk_tokens.specs.Whole.{expressions_in, operands_of, operands_of_all}
+use Rattle.cdk_contexts.specs.Contexts.{has_marked_run, misses_context}
+use Rattle.cdk_contexts.specs.Expressions.{expressions_in, operands_of, operands_of_all}
 use Rattle.cdk_expansion.specs.Clean.{ListIsClean}
 use Rattle.cdk_expansion.specs.Right.{ListIsRight}
 use Rattle.cdk_expansion.proofs.RightExpressions.{asks_wrongly, is_right, is_wrong_here, none_in_parts, text_parts}

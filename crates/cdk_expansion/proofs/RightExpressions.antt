@@ -13,7 +13,7 @@ use Rattle.cdk_tree.specs.Expected.{Expected, expected, expected_all, expected_f
 use Rattle.cdk_tree.specs.Lists.{is_list_where, list_lazies}
 use Rattle.cdk_tree.specs.Placed.{Placed, construct_at, found_value}
 use Rattle.cdk_tree.specs.declared.role.TargetRole.TheVariants as roles
-use Rattle.cdk_tokens.specs.Contexts.{any_marked_run, any_misses_context, fields_marked_run, fields_miss_context, has_marked_run, misses_context, pieces_literals}
+use Rattle.cdk_contexts.specs.Contexts.{any_marked_run, any_misses_context, fields_marked_run, fields_miss_context, has_marked_run, misses_context, pieces_literals}
 use Rattle.cdk_expansion.specs.Clean.{AreClean, FieldsAreClean, IsClean, PiecesAreClean, is_clean_value}
 use Rattle.cdk_expansion.specs.Right.{AreRight, FieldsAreRight, IsRight, PiecesAreRight}
 

@@ -7,8 +7,8 @@ use Rattle.cdk_tree.specs.Expected.{expected_of, is_condition, is_missing, is_wr
 use Rattle.cdk_tree.specs.Lists.{list_lazies}
 use Rattle.cdk_tree.specs.PlaceFindings.{when}
 use Rattle.cdk_tree.specs.Placed.{Placed, construct_at}
-use Rattle.cdk_tokens.specs.Contexts.{context_findings, context_findings_from, has_marked_run, misses_context, wrong_contexts_at}
-use Rattle.cdk_tokens.specs.Whole.{expressions_in}
+use Rattle.cdk_contexts.specs.Contexts.{context_findings, context_findings_from, has_marked_run, misses_context, wrong_contexts_at}
+use Rattle.cdk_contexts.specs.Expressions.{expressions_in}
 
 -- ---- empty lists
 

@@ -15,7 +15,8 @@ use Rattle.cdk_tree.specs.Placed.{Placed, construct_at, nowhere}
 use Rattle.cdk_tree.proofs.Tests.{same_some}
 use Rattle.cdk_tokens.specs.Marking.{count, marked, tokens}
 use Rattle.cdk_tokens.specs.Whole as whole
-use Rattle.cdk_tokens.specs.Whole.{MarkedBody, count_in, expressions_in, marked_body, marked_from, marked_list, marking, operand_at, operand_in, operands_of, tokens_from, tokens_of, tokens_of_list, value_at}
+use Rattle.cdk_contexts.specs.Expressions.{expressions_in, operands_of}
+use Rattle.cdk_tokens.specs.Whole.{MarkedBody, count_in, marked_body, marked_from, marked_list, marking, operand_at, operand_in, tokens_from, tokens_of, tokens_of_list, value_at}
 use Rattle.cdk_expansion.specs.Expanded.{Known, known_in, value_plain}
 use Rattle.cdk_expansion.specs.Knows.{own_tokens}
 use Rattle.cdk_expansion.specs.Own.{operands_in, own, value_in}

@@ -7,7 +7,8 @@ use Rattle.cdk_language.specs.Expression.{Expression}
 use Rattle.cdk_plain.specs.Plain.{Plain}
 use Rattle.cdk_tree.specs.Placed.{Placed, construct_at}
 use Rattle.cdk_tokens.specs.Marking.{count, tokens}
-use Rattle.cdk_tokens.specs.Whole.{count_in, expressions_in, tokens_from, tokens_of, tokens_of_list}
+use Rattle.cdk_contexts.specs.Expressions.{expressions_in}
+use Rattle.cdk_tokens.specs.Whole.{count_in, tokens_from, tokens_of, tokens_of_list}
 use Rattle.cdk_expansion.specs.Expanded.{forms_after, known_in, token_plains}
 use Rattle.cdk_expansion.specs.Knows.{own_tokens}
 use Rattle.cdk_expansion.specs.Right.{ListIsRight}

@@ -9,7 +9,7 @@ use Rattle.cdk_base.specs.Marker.{has_marker, holds_marker}
 use Rattle.cdk_language.specs.Expression as expression
 use Rattle.cdk_language.specs.Expression.{Expression, Expressions, Fields}
 use Rattle.cdk_tree.specs.Placed.{Placed, construct_at, found_value}
-use Rattle.cdk_tokens.specs.Whole.{expressions_in}
+use Rattle.cdk_contexts.specs.Expressions.{expressions_in}
 
 -- no array or object as it is written
 abbrev pub IsNoCollection : Expression → Type 0

@@ -8,7 +8,8 @@ use Rattle.cdk_plain.specs.Plain as plain
 use Rattle.cdk_plain.specs.Plain.{Plain}
 use Rattle.cdk_tokens.specs.Marking.{target}
 use Rattle.cdk_tokens.specs.Token.{Token}
-use Rattle.cdk_tokens.specs.Whole.{MarkedBody, operand_at, operands_of}
+use Rattle.cdk_contexts.specs.Expressions.{operands_of}
+use Rattle.cdk_tokens.specs.Whole.{MarkedBody, operand_at}
 use Rattle.cdk_tree.specs.Placed.{Placed}
 use Rattle.cdk_expansion.specs.Expanded.{plain_of}
 

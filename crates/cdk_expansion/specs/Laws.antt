@@ -5,9 +5,10 @@ use Rattle.cdk_language.specs.Expression.{Expression}
 use Rattle.cdk_plain.specs.Plain.{Plain}
 use Rattle.cdk_tree.specs.Expected.{target_findings}
 use Rattle.cdk_tree.specs.Placed.{Placed, construct_at}
-use Rattle.cdk_tokens.specs.Contexts.{context_findings}
+use Rattle.cdk_contexts.specs.Contexts.{context_findings}
 use Rattle.cdk_tokens.specs.Marking.{marked}
-use Rattle.cdk_tokens.specs.Whole.{expressions_in, marking, operand_at, tokens_of, value_at}
+use Rattle.cdk_contexts.specs.Expressions.{expressions_in}
+use Rattle.cdk_tokens.specs.Whole.{marking, operand_at, tokens_of, value_at}
 use Rattle.cdk_expansion.specs.Clean.{TreeIsClean}
 use Rattle.cdk_expansion.specs.Expanded.{Known, plain_of, value_plain}
 use Rattle.cdk_expansion.specs.Knows.{Knows}

@@ -16,7 +16,7 @@ use Rattle.cdk_plain.specs.Plain.{Plain, text, whole, truth, list_of, object_of,
 use Rattle.cdk_tree.specs.Lists.{is_list}
 use Rattle.cdk_tree.specs.Placed.{Placed, construct_at}
 use Rattle.cdk_tokens.specs.Marking.{context_value, target}
-use Rattle.cdk_tokens.specs.Whole.{operands_of}
+use Rattle.cdk_contexts.specs.Expressions.{operands_of}
 use Rattle.cdk_expansion.specs.Expanded.{number_plain, pseudo_of}
 
 -- a part of a Concat

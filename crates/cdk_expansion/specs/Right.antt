@@ -10,7 +10,7 @@ use Rattle.cdk_language.specs.Runs.{is_marked_run}
 use Rattle.cdk_tree.specs.Expected.{finds_no_text}
 use Rattle.cdk_tree.specs.Lists.{is_list}
 use Rattle.cdk_tree.specs.Placed.{Placed, construct_at, found_value}
-use Rattle.cdk_tokens.specs.Contexts.{pieces_literals}
+use Rattle.cdk_contexts.specs.Contexts.{pieces_literals}
 use Rattle.cdk_expansion.specs.Clean.{IsNoCollection, is_clean_value}
 
 -- it is clean, its contexts are found, the pieces of its Concats are texts, and no run of literals in them holds the beginning

@@ -19,7 +19,7 @@ use Rattle.cdk_meaning.proofs.Canonical.{rendered_condition_is_canonical}
 use Rattle.cdk_plain.specs.Plain as plain
 use Rattle.cdk_plain.specs.Plain.{AreWellConditions, IsWellCondition, Plain, are_few, condition_count, text}
 use Rattle.cdk_plain.specs.Rendered.{rendered, rendered_condition, rendered_conditions, two}
-use Rattle.cdk_tokens.specs.Whole.{expressions_in, operands_of, operands_of_all}
+use Rattle.cdk_contexts.specs.Expressions.{expressions_in, operands_of, operands_of_all}
 use Rattle.cdk_tree.specs.Placed.{Placed}
 
 -- ---- operands

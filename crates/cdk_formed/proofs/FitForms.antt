@@ -22,7 +22,7 @@ use Rattle.cdk_plain.specs.Plain as plain
 use Rattle.cdk_plain.specs.Plain.{IsWell, Plain, Plains, num_of, object_of, text, whole}
 use Rattle.cdk_plain.specs.Rendered.{Homes, rendered, rendered_fields}
 use Rattle.cdk_tokens.specs.Marking.{target}
-use Rattle.cdk_tokens.specs.Whole.{expressions_in}
+use Rattle.cdk_contexts.specs.Expressions.{expressions_in}
 use Rattle.cdk_tree.specs.Lists.{is_list}
 use Rattle.cdk_tree.specs.Placed.{Placed, construct_at, found_value, nowhere}
 use Rattle.cdk_written.specs.Written.{IsObject}

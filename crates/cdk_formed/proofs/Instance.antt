@@ -31,7 +31,7 @@ use Rattle.cdk_meaning.specs.StackTemplate.{IsMapping}
 use Rattle.cdk_plain.specs.Plain as plain
 use Rattle.cdk_plain.specs.Plain.{IsWell, IsWellCondition, Plain}
 use Rattle.cdk_plain.specs.Rendered.{rendered, rendered_condition}
-use Rattle.cdk_tokens.specs.Contexts.{context_findings}
+use Rattle.cdk_contexts.specs.Contexts.{context_findings}
 use Rattle.cdk_tokens.specs.Whole.{tokens_of}
 use Rattle.cdk_tree.specs.Expected.{target_findings}
 use Rattle.cdk_tree.specs.Placed.{Placed, constructs_of}

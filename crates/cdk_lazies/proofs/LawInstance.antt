@@ -21,7 +21,7 @@ use Rattle.cdk_lazies.proofs.LawWays.{lazy_cycles_are_mentions}
 use Rattle.cdk_lazies.specs.Laws.{further, once, Reaches}
 use Rattle.cdk_lazies.specs.LazyOrder.{IsHeld, IsLazy, IsLazyOrder}
 use Rattle.cdk_lazies.specs.MentionGraph.{construct_node, mention_graph}
-use Rattle.cdk_tokens.specs.Contexts.{context_findings}
+use Rattle.cdk_contexts.specs.Contexts.{context_findings}
 use Rattle.cdk_tokens.specs.Token as token
 use Rattle.cdk_tokens.specs.Token.{find_token, Form, Token}
 use Rattle.cdk_tokens.specs.Values.{token_at}

@@ -21,7 +21,8 @@ use Rattle.cdk_lazies.specs.LazyOrder.{IsLazy}
 use Rattle.cdk_tokens.specs.Marking.{all_tokens, count, fields_tokens, marked, target, token_of, tokens}
 use Rattle.cdk_tokens.specs.Token as token
 use Rattle.cdk_tokens.specs.Token.{Form, Token}
-use Rattle.cdk_tokens.specs.Whole.{count_in, expressions_in, operands_of, operands_of_all, tokens_from, tokens_of, tokens_of_list}
+use Rattle.cdk_contexts.specs.Expressions.{expressions_in, operands_of, operands_of_all}
+use Rattle.cdk_tokens.specs.Whole.{count_in, tokens_from, tokens_of, tokens_of_list}
 use Rattle.cdk_tree.specs.Expected as asked
 use Rattle.cdk_tree.specs.Expected.{Expected, expected, expected_all, expected_body, expected_condition, expected_conditions, expected_fields, expected_pieces, expected_when, is_condition, is_lazy, is_missing, is_resource, is_wrong, text_place}
 use Rattle.cdk_tree.specs.Lists.{list_lazies}

@@ -22,7 +22,8 @@ use Rattle.cdk_tokens.specs.Marking.{all_tokens, count, fields_tokens, marked, t
 use Rattle.cdk_tokens.specs.Token as token
 use Rattle.cdk_tokens.specs.Token.{find_token, Token}
 use Rattle.cdk_tokens.specs.Values.{has_unknown_token}
-use Rattle.cdk_tokens.specs.Whole.{count_in, expressions_in, tokens_from, tokens_of, tokens_of_list}
+use Rattle.cdk_contexts.specs.Expressions.{expressions_in}
+use Rattle.cdk_tokens.specs.Whole.{count_in, tokens_from, tokens_of, tokens_of_list}
 use Rattle.cdk_tree.specs.Placed.{construct_at, Placed}
 
 -- ---- tokens whose arguments know only those before

@@ -17,7 +17,8 @@ use Rattle.cdk_plain.specs.Plain.{list_of, Plain, Plains, text}
 use Rattle.cdk_plain.specs.Rendered.{attribute_json, Homes, joined, one, ref_json, rendered, rendered_condition, rendered_conditions, rendered_fields, rendered_items, rendered_join, split_json, three, two}
 use Rattle.cdk_tokens.specs.Token as token
 use Rattle.cdk_tokens.specs.Token.{find_token, Form, Token}
-use Rattle.cdk_tokens.specs.Whole.{MarkedBody, operands_of, value_at}
+use Rattle.cdk_contexts.specs.Expressions.{operands_of}
+use Rattle.cdk_tokens.specs.Whole.{MarkedBody, value_at}
 use Rattle.cdk_tree.specs.Placed.{Placed}
 
 -- they spell all targets, conditions and mappings the same

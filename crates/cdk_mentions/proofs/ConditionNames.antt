@@ -16,7 +16,7 @@ use Rattle.cdk_meaning.specs.Mentions.{all_names_in, names_in}
 use Rattle.cdk_meaning.specs.Names.{Each, IsIn}
 use Rattle.cdk_plain.specs.Plain.{Plain}
 use Rattle.cdk_tokens.specs.Marking.{target}
-use Rattle.cdk_tokens.specs.Whole.{operands_of}
+use Rattle.cdk_contexts.specs.Expressions.{operands_of}
 use Rattle.cdk_tree.proofs.Tests.{and_right}
 use Rattle.cdk_tree.specs.Expected.{expected_condition, expected_conditions, is_condition}
 use Rattle.cdk_tree.specs.Placed.{Placed, construct_at}

@@ -18,7 +18,7 @@ use Rattle.cdk_meaning.specs.StackTemplate.{IsOperandMention}
 use Rattle.cdk_plain.specs.Plain as plain
 use Rattle.cdk_plain.specs.Plain.{Plain}
 use Rattle.cdk_tokens.specs.Marking.{target}
-use Rattle.cdk_tokens.specs.Whole.{operands_of, operands_of_all}
+use Rattle.cdk_contexts.specs.Expressions.{operands_of, operands_of_all}
 use Rattle.cdk_tree.specs.Expected as asked
 use Rattle.cdk_tree.specs.Expected.{Expected, expected, expected_all, expected_condition, expected_conditions, expected_fields, expected_pieces, is_condition, is_parameter, is_resource}
 use Rattle.cdk_tree.specs.Placed.{Placed, construct_at}

@@ -13,7 +13,7 @@ use Rattle.cdk_language.specs.Schema.{condition_member}
 use Rattle.cdk_language.specs.declared.schema.Frame.TheVariants as frames
 use Rattle.cdk_language.specs.declared.schema.Role.TheVariants as roles
 use Rattle.cdk_meaning.specs.Names.{Each}
-use Rattle.cdk_tokens.specs.Whole.{operands_of, operands_of_all}
+use Rattle.cdk_contexts.specs.Expressions.{operands_of, operands_of_all}
 use Rattle.cdk_written.proofs.ReadExpressions.{All, made, mapped, then}
 use Rattle.cdk_mentions.specs.Operands.{IsPlainOperand}
 use Rattle.cdk_mentions.proofs.Lists.{each_append}

@@ -1,7 +1,7 @@
 -- What is known of a tree's tokens and marked values once its targets and contexts are checked (own).
 use Rattle.std.specs.Prelude.{◌≡◌, List, []}
 use Rattle.cdk_expansion.specs.Clean.{TreeIsClean}
-use Rattle.cdk_tokens.specs.Contexts.{context_findings}
+use Rattle.cdk_contexts.specs.Contexts.{context_findings}
 use Rattle.cdk_tokens.specs.Token.{Token}
 use Rattle.cdk_tokens.specs.Whole.{MarkedBody, marking, tokens_of}
 use Rattle.cdk_tree.specs.Expected.{target_findings}

@@ -27,7 +27,7 @@ use Rattle.cdk_rendered.specs.Laws.{HasNoCycle}
 use Rattle.cdk_resolve.specs.Conditions.{IsConditionRendering}
 use Rattle.cdk_sizes.specs.Size.{condition_depth, depth}
 use Rattle.cdk_sizes.specs.SizeFindings.{size_findings}
-use Rattle.cdk_tokens.specs.Contexts.{context_findings}
+use Rattle.cdk_contexts.specs.Contexts.{context_findings}
 use Rattle.cdk_tokens.specs.Whole.{marking, tokens_of, value_at}
 use Rattle.cdk_tree.specs.Expected.{target_findings}
 use Rattle.cdk_tree.specs.Placed.{constructs_of, Placed}

@@ -11,7 +11,8 @@ use Rattle.cdk_language.specs.Construct.{Body}
 use Rattle.cdk_language.specs.Expression.{Expression}
 use Rattle.cdk_tokens.specs.Marking.{count, marked}
 use Rattle.cdk_tokens.specs.Whole as whole
-use Rattle.cdk_tokens.specs.Whole.{count_in, marked_body, marked_from, marked_list, MarkedBody, marking, operand_at, operand_in, operands_of, value_at}
+use Rattle.cdk_contexts.specs.Expressions.{operands_of}
+use Rattle.cdk_tokens.specs.Whole.{count_in, marked_body, marked_from, marked_list, MarkedBody, marking, operand_at, operand_in, value_at}
 use Rattle.cdk_tree.specs.Placed.{construct_at, nowhere, Placed}
 
 -- marked from the body, with some number for its first token

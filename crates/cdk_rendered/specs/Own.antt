@@ -4,7 +4,7 @@ use Rattle.std.specs.Option.{option_map_or}
 use Rattle.cdk_expansion.specs.Own.{own_of}
 use Rattle.cdk_language.specs.Condition.{Condition}
 use Rattle.cdk_plain.specs.Plain.{Plain, text}
-use Rattle.cdk_tokens.specs.Whole.{operands_of}
+use Rattle.cdk_contexts.specs.Expressions.{operands_of}
 use Rattle.cdk_tree.specs.Placed.{Placed}
 
 -- the plain form of the operand n of the condition `at`, where lazies are opened k times; one that isn't there is an empty text

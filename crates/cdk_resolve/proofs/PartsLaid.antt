@@ -10,7 +10,7 @@ use Rattle.cdk_language.specs.Condition as condition
 use Rattle.cdk_language.specs.Condition.{Condition, Conditions}
 use Rattle.cdk_plain.specs.Plain.{Plain}
 use Rattle.cdk_plain.specs.Rendered.{and_items, Homes, rendered_condition, rendered_conditions}
-use Rattle.cdk_tokens.specs.Whole.{operands_of}
+use Rattle.cdk_contexts.specs.Expressions.{operands_of}
 use Rattle.cdk_tree.specs.Placed.{Placed}
 
 pushed : (vs : List Value) (v : Value) (rest : Items) → and_items (items_view vs) (item (view v) rest) ≡ and_items (items_view (vs ++ v ∷ [])) rest

@@ -12,7 +12,7 @@ ghost use Rattle.cdk_plain.specs.Rendered.{rendered};
 ghost use Rattle.cdk_resolve.specs.Conditions.{ArePartRenderings, IsConditionRendering, IsOperandRendering, IsPartRendering, equals_in};
 ghost use Rattle.cdk_tokens.specs.Marking.{target};
 ghost use Rattle.cdk_tokens.specs.TableView.{marked_in, tokens_in};
-ghost use Rattle.cdk_tokens.specs.Whole.{operands_of, operands_of_all};
+ghost use Rattle.cdk_contexts.specs.Expressions.{operands_of, operands_of_all};
 ghost use Rattle.cdk_tree.specs.TreeView.{constructs};
 
 use cdk_base::{List, Value};

@@ -7,7 +7,7 @@ ghost use Rattle.cdk_sizes.specs.Measures.{condition_measure as spec_condition_m
 ghost use Rattle.cdk_sizes.specs.SizeFindings.{lazy_count, path_in};
 ghost use Rattle.cdk_tokens.specs.Marking.{target};
 ghost use Rattle.cdk_tokens.specs.TableView.{marked_in, tokens_in};
-ghost use Rattle.cdk_tokens.specs.Whole.{operands_of, operands_of_all};
+ghost use Rattle.cdk_contexts.specs.Expressions.{operands_of, operands_of_all};
 ghost use Rattle.cdk_tree.specs.TreeView.{constructs};
 
 use crate::measure::{Measure, Parts};

@@ -18,7 +18,7 @@ use Rattle.cdk_sizes.specs.SizeFindings.{size_findings}
 use Rattle.cdk_stacks.specs.Claims.{name_findings}
 use Rattle.cdk_template.specs.Counts.{count_findings}
 use Rattle.cdk_template.specs.Markers.{marker_findings}
-use Rattle.cdk_tokens.specs.Contexts.{context_findings}
+use Rattle.cdk_contexts.specs.Contexts.{context_findings}
 use Rattle.cdk_tokens.specs.Whole.{marking, tokens_of}
 use Rattle.cdk_tree.specs.Expected.{target_findings}
 use Rattle.cdk_tree.specs.PlaceFindings.{first, place_findings}

@@ -1,15 +1,11 @@
--- Small applications: their marked values and tokens, and what is wrong with their contexts, computed by the definitions.
+-- Small applications: their marked values and tokens, computed by the definitions.
 use Rattle.std.proofs.Common.{◌≡◌, ℕ, List, [], ◌∷◌, map, codes, Option, Some, option_map, option_and_then, refl}
 use Rattle.std.specs.Fmt.{digits}
 use Rattle.serde_json.specs.Read.{read}
 use Rattle.serde_json.specs.Written.{compact_text}
 use Rattle.serde_json.proofs.OnLiterals.{serde_json_on_literals}
-use Rattle.cdk_base.specs.declared.code.Code.TheVariants.{LiteralMarker, NoContext}
 use Rattle.cdk_language.specs.Application.{application_of}
-use Rattle.cdk_tree.specs.Expected.{target_at}
 use Rattle.cdk_tree.specs.Placed.{Placed, constructs_of}
-use Rattle.cdk_tree.specs.declared.role.Found.{Found}
-use Rattle.cdk_tokens.specs.Contexts.{context_findings}
 use Rattle.cdk_tokens.specs.Whole.{MarkedBody, nothing, value, operands, marking, tokens_of}
 
 abbrev tree : List ℕ → Option (List Placed)
@@ -26,9 +22,6 @@ marks s = option_map (λ cs. map texts_in (marking cs)) (tree s)
 
 abbrev token_keys : List ℕ → Option (List (List ℕ × ℕ))
 token_keys s = option_map (λ cs. map (λ t. (t.key, t.owner)) (tokens_of cs)) (tree s)
-
-abbrev found : List ℕ → Option (List Found)
-found s = option_map context_findings (tree s)
 
 -- an argument's token comes before the token that it is an argument of
 nested_keys : token_keys (codes "{\"app\":\"2\",\"children\":[{\"children\":[{\"id\":\"R\",\"kind\":\"resource\",\"properties\":{\"P\":{\"Fn::Join\":[\"\",[\"a\",{\"CDK::Concat\":[\"b\",{\"Ref\":\"S/Q\"}]},5]]}},\"type\":\"T\"},{\"id\":\"Q\",\"kind\":\"resource\",\"properties\":{},\"type\":\"T\"}],\"id\":\"S\",\"kind\":\"stack\"}]}")
@@ -59,21 +52,3 @@ contexts : marks (codes "{\"app\":\"2\",\"children\":[{\"children\":[{\"id\":\"R
     ≡ Some ([] ∷ [] ∷ (codes "{\"P\":\"orders-3trued\",\"Q\":\"${Token[Join.0]}\"}" ∷ []) ∷ [])
 unfolding serde_json_on_literals digits
 contexts = refl
-
--- a Context that is found nowhere
-no_context : found (codes "{\"app\":\"2\",\"children\":[{\"children\":[{\"id\":\"R\",\"kind\":\"resource\",\"properties\":{\"P\":{\"CDK::Context\":[\"none\"]}},\"type\":\"T\"}],\"id\":\"S\",\"kind\":\"stack\"}]}")
-    ≡ Some (target_at 2 NoContext ∷ [])
-unfolding serde_json_on_literals digits
-no_context = refl
-
--- literals on both sides of a context make the beginning of a marker; it comes first
-context_makes_a_marker : found (codes "{\"app\":\"2\",\"children\":[{\"children\":[{\"id\":\"R\",\"kind\":\"resource\",\"properties\":{\"P\":{\"CDK::Concat\":[\"${Tok\",{\"CDK::Context\":[\"k\"]},\"[X.0]}\"]},\"Q\":{\"CDK::Context\":[\"none\"]}},\"type\":\"T\"}],\"id\":\"S\",\"kind\":\"stack\"}],\"context\":{\"k\":\"en\"}}")
-    ≡ Some (target_at 2 LiteralMarker ∷ target_at 2 NoContext ∷ [])
-unfolding serde_json_on_literals digits
-context_makes_a_marker = refl
-
--- a token between them breaks the run
-token_breaks_a_run : found (codes "{\"app\":\"2\",\"children\":[{\"children\":[{\"id\":\"R\",\"kind\":\"resource\",\"properties\":{\"P\":{\"CDK::Concat\":[\"${Tok\",{\"Ref\":\"AWS::Region\"},\"en[X.0]}\"]}},\"type\":\"T\"}],\"id\":\"S\",\"kind\":\"stack\"}]}")
-    ≡ Some []
-unfolding serde_json_on_literals digits
-token_breaks_a_run = refl

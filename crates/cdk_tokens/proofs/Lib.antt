@@ -1,4 +1,3 @@
-mod ContextLemmas
 mod CountLemmas
 mod Examples
 mod LastDot

@@ -9,7 +9,8 @@ use Rattle.cdk_language.specs.Expression.{Expression}
 use Rattle.cdk_tree.specs.Placed.{Placed}
 use Rattle.cdk_tokens.specs.Marking.{count, marked, tokens}
 use Rattle.cdk_tokens.specs.Token.{Token}
-use Rattle.cdk_tokens.specs.Whole.{MarkedBody, expressions_in, marked_body, marked_from, marked_list, tokens_from, tokens_of_list}
+use Rattle.cdk_contexts.specs.Expressions.{expressions_in}
+use Rattle.cdk_tokens.specs.Whole.{MarkedBody, marked_body, marked_from, marked_list, tokens_from, tokens_of_list}
 use Rattle.cdk_tokens.proofs.CountLemmas.{length-tokens}
 use Rattle.cdk_tokens.proofs.MarkingLemmas.{marked_list_then, tokens_of_list_then}
 

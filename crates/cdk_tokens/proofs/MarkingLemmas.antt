@@ -6,8 +6,7 @@ use Rattle.serde_json.specs.View.{view as json_view, items_of}
 use Rattle.serde_json.specs.declared.value.Value as json
 use Rattle.cdk_base.specs.Json.{text_of}
 use Rattle.cdk_language.specs.Expression as expression
-use Rattle.cdk_language.specs.Expression.{Expression, Expressions, Fields, expressions_of, field_view, view}
-use Rattle.cdk_language.specs.declared.expression.Field.{Field, the_lemmas}
+use Rattle.cdk_language.specs.Expression.{Expression, Expressions, Fields, expressions_of}
 use Rattle.cdk_tree.specs.Placed.{Placed}
 use Rattle.cdk_tokens.specs.Marking.{all_tokens, count, fields_tokens, marked, marked_items, marked_members, marked_text, tokens}
 use Rattle.cdk_tokens.specs.Token.{Token}
@@ -19,9 +18,6 @@ view-String s = search (rules, json.the_lemmas)
 
 pub view-Bool : (b : Bool) → json_view (json.Bool b) ≡ boolean b
 view-Bool b = search (rules, json.the_lemmas)
-
-pub seen_field : (f : Field) → field_view f ≡ (f.key, view f.value)
-seen_field f = search (rules, the_lemmas)
 
 -- the items of an array are the expressions marked one after another
 pub items_of-marked_list : (cs : List Placed) (at n : ℕ) (es : List Expression) → items_of (marked_list cs at n es) ≡ marked_items cs at n (expressions_of es)

@@ -1,9 +1,6 @@
 pub mod Token
 pub mod Marking
 pub mod Whole
-pub mod Contexts
-pub mod Answers
-pub mod Scanning
 pub mod Views
 pub mod TableView
 pub mod Marks

@@ -4,7 +4,7 @@ use Rattle.cdk_tree.specs.PlaceFindings.{first}
 use Rattle.cdk_tree.specs.Placed.{Placed}
 use Rattle.cdk_tree.specs.declared.role.PassError.{PassError}
 use Rattle.cdk_tree.specs.declared.role.PassError.TheVariants as errors
-use Rattle.cdk_tokens.specs.Contexts.{context_findings}
+use Rattle.cdk_contexts.specs.Contexts.{context_findings}
 use Rattle.cdk_tokens.specs.TableView.{marked_in, tokens_in}
 use Rattle.cdk_tokens.specs.Whole.{marking, tokens_of}
 use Rattle.cdk_tokens.specs.declared.marked.Marked.{Marked}

@@ -1,12 +1,11 @@
 -- The marking of a whole application: the constructs in walk order, with one numbering of all tokens from 0 (own).
 use Rattle.std.specs.Prelude.{ℕ, ◌+◌, List, [], ◌∷◌, ◌++◌, sum_by, slice_get, Option, Some, None, option_and_then}
 use Rattle.serde_json.specs.Data.{Data}
-use Rattle.cdk_language.specs.Condition as condition
-use Rattle.cdk_language.specs.Condition.{Condition, Conditions}
 use Rattle.cdk_language.specs.Construct as construct
 use Rattle.cdk_language.specs.Construct.{Body}
 use Rattle.cdk_language.specs.Expression.{Expression}
 use Rattle.cdk_tree.specs.Placed.{Placed}
+use Rattle.cdk_contexts.specs.Expressions.{expressions_in, operands_of}
 use Rattle.cdk_tokens.specs.Marking.{count, marked, tokens}
 use Rattle.cdk_tokens.specs.Token.{Token}
 
@@ -15,27 +14,6 @@ pub data MarkedBody : Type 0 where
   nothing : MarkedBody
   value : Data → MarkedBody
   operands : List Data → MarkedBody
-
--- the operands of a condition in written order
-abbrev mutual
-  pub operands_of : Condition → List Expression
-  operands_of (condition.equals x y) = x ∷ y ∷ []
-  operands_of (condition.all_of cs) = operands_of_all cs
-  operands_of (condition.any_of cs) = operands_of_all cs
-  operands_of (condition.negated c) = operands_of c
-  operands_of (condition.named t) = []
-
-  pub operands_of_all : Conditions → List Expression
-  operands_of_all condition.no_conditions = []
-  operands_of_all (condition.condition c cs) = operands_of c ++ operands_of_all cs
-
--- the expressions of a construct in written order
-abbrev pub expressions_in : Body → List Expression
-expressions_in (construct.resource r) = r.properties ∷ []
-expressions_in (construct.output o) = o.value ∷ []
-expressions_in (construct.lazy e) = e ∷ []
-expressions_in (construct.condition_body c) = operands_of c
-expressions_in b = []
 
 abbrev pub count_in : Body → ℕ
 count_in b = sum_by count (expressions_in b)

@@ -1,7 +1,6 @@
 //! Tokens: the marked values of an application's expressions, and what each marker stands for.
 #![tactic(auto)]
 
-mod contexts;
 mod form;
 mod marked;
 mod marking;

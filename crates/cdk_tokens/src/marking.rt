@@ -12,10 +12,10 @@ ghost use Rattle.cdk_tokens.specs.TableView.{tokens_in};
 ghost use Rattle.cdk_tokens.specs.Token.{get_att, import_value, join, split};
 ghost use Rattle.cdk_tokens.specs.Views.{form_view};
 
-use crate::contexts::found_value;
 use crate::form::Form;
 use crate::table::Table;
 use cdk_base::{List, Map, Text, Value, text_of};
+use cdk_contexts::found_value;
 use cdk_language::{Expr, Field};
 use cdk_tree::{NodeId, Tree};
 use serde_json::{Number, put};

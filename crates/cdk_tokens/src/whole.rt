@@ -10,13 +10,14 @@ ghost use Rattle.cdk_tokens.specs.Marking.{marked, tokens};
 ghost use Rattle.cdk_tokens.specs.Marks.{Marks};
 ghost use Rattle.cdk_tokens.specs.TableView.{marked_in, tokens_in};
 ghost use Rattle.cdk_tokens.specs.Views.{part_view};
-ghost use Rattle.cdk_tokens.specs.Whole.{expressions_in, marked_body, marked_list, marking, operands, operands_of, operands_of_all, tokens_of, tokens_of_list, value};
+ghost use Rattle.cdk_contexts.specs.Expressions.{expressions_in, operands_of, operands_of_all};
+ghost use Rattle.cdk_tokens.specs.Whole.{marked_body, marked_list, marking, operands, tokens_of, tokens_of_list, value};
 
-use crate::contexts::check_contexts;
 use crate::marked::{Marked, Part};
 use crate::marking::mark_expression;
 use crate::table::Table;
 use cdk_base::{List, Value};
+use cdk_contexts::check_contexts;
 use cdk_language::{Cond, Expr, Kind};
 use cdk_tree::{NodeId, PassError, Tree};
 use std::alloc::{AllocError, Global};

@@ -14,7 +14,7 @@ use Rattle.cdk_leaves.specs.Kept.{results_in}
 use Rattle.cdk_leaves.specs.Views.{scope_view}
 use Rattle.cdk_plain.specs.Rendered.{and_items, one, rendered_condition, rendered_conditions}
 use Rattle.cdk_resolve.proofs.PartsLaid.{condition_counted, condition_laid, none_more, part_laid}
-use Rattle.cdk_tokens.specs.Whole.{operands_of, operands_of_all}
+use Rattle.cdk_contexts.specs.Expressions.{operands_of, operands_of_all}
 use Rattle.cdk_tree.specs.TreeView.{constructs}
 use Rattle.cdk_resolve.proofs.conditions.+conditions.Goals as goal
 

@@ -7,7 +7,7 @@ use Rattle.cdk_leaves.specs.Kept.{results_in}
 use Rattle.cdk_leaves.specs.Lazies.{Stays}
 use Rattle.cdk_leaves.specs.Views.{scope_view}
 use Rattle.cdk_plain.specs.Rendered.{and_items, rendered_conditions}
-use Rattle.cdk_tokens.specs.Whole.{operands_of_all}
+use Rattle.cdk_contexts.specs.Expressions.{operands_of_all}
 use Rattle.cdk_tree.specs.TreeView.{constructs}
 use Rattle.cdk_resolve.proofs.conditions.+conditions.Given as goal
 

@@ -5,7 +5,7 @@ use Rattle.cdk_sizes.proofs.Running.{conditions_after}
 use Rattle.cdk_sizes.specs.Measures.{conditions_parts}
 use Rattle.cdk_sizes.specs.SizeFindings.{lazy_count, path_in}
 use Rattle.cdk_tokens.specs.TableView.{marked_in, tokens_in}
-use Rattle.cdk_tokens.specs.Whole.{operands_of_all}
+use Rattle.cdk_contexts.specs.Expressions.{operands_of_all}
 use Rattle.cdk_tree.specs.TreeView.{constructs}
 use Rattle.cdk_sizes.proofs.conditions.+conditions.Given as goal
 

@@ -10,7 +10,8 @@ use Rattle.cdk_tokens.specs.Marking.{all_tokens, fields_tokens, marked, marked_i
 use Rattle.cdk_tokens.specs.TableView.{tokens_in}
 use Rattle.cdk_tokens.specs.Token as token
 use Rattle.cdk_tokens.specs.Whole.{marked_list}
-use Rattle.cdk_tokens.proofs.MarkingLemmas.{all_tokens_then, fields_tokens_then, items_of-marked_list, marked_list_then, marked_members_then, marked_text_then, seen_field, view-Bool, view-String}
+use Rattle.cdk_contexts.proofs.Seen.{seen_field}
+use Rattle.cdk_tokens.proofs.MarkingLemmas.{all_tokens_then, fields_tokens_then, items_of-marked_list, marked_list_then, marked_members_then, marked_text_then, view-Bool, view-String}
 use Rattle.cdk_tokens.proofs.TokenLemmas.{no_tokens, put_tokens, put_value, seen_tokens, seen_value, next-choice, next-find_in_map, next-get_att, next-import_value, next-join, next-lazy, next-pseudo, next-ref, next-select, next-split, view-Concat, view-Context, view-FindInMap, view-GetAtt, view-If, view-ImportValue, view-Join, view-Lazy, view-List, view-Object, view-Pseudo, view-Ref, view-Select, view-Split, view-Text, view-Truth, view-Whole}
 use Rattle.cdk_tokens.proofs.marking.+marking.Goals as goal
 

@@ -10,7 +10,8 @@ use Rattle.cdk_language.specs.declared.condition.Cond.{Cond, Equals, Named, Not,
 use Rattle.cdk_language.specs.declared.expression.Expr.{Expr}
 use Rattle.cdk_tree.specs.TreeView.{constructs}
 use Rattle.cdk_tokens.specs.TableView.{tokens_in}
-use Rattle.cdk_tokens.specs.Whole.{marked_list, operands_of, operands_of_all, tokens_of_list}
+use Rattle.cdk_contexts.specs.Expressions.{operands_of, operands_of_all}
+use Rattle.cdk_tokens.specs.Whole.{marked_list, tokens_of_list}
 use Rattle.cdk_tokens.proofs.ListLemmas.{marked_lists_then, tokens_of_lists_then, two_marked, two_tokens}
 use Rattle.cdk_tokens.proofs.whole.+operands.Goals as goal
 

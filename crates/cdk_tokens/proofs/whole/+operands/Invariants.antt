@@ -3,7 +3,8 @@ use Rattle.serde_json.specs.View.{view as json_view}
 use Rattle.cdk_language.specs.Condition.{conditions_view}
 use Rattle.cdk_tree.specs.TreeView.{constructs}
 use Rattle.cdk_tokens.specs.TableView.{tokens_in}
-use Rattle.cdk_tokens.specs.Whole.{marked_list, operands_of_all, tokens_of_list}
+use Rattle.cdk_contexts.specs.Expressions.{operands_of_all}
+use Rattle.cdk_tokens.specs.Whole.{marked_list, tokens_of_list}
 use Rattle.cdk_tokens.proofs.whole.+operands.Given as goal
 
 abbrev pub invariant-push_each-loop-part : goal.invariant-push_each-loop-part

@@ -6,7 +6,8 @@ use Rattle.cdk_tree.specs.Placed.{construct_at, nowhere}
 use Rattle.cdk_tree.specs.TreeView.{constructs}
 use Rattle.cdk_tokens.specs.TableView.{tokens_in}
 use Rattle.cdk_tokens.specs.Views.{part_view}
-use Rattle.cdk_tokens.specs.Whole.{expressions_in, marked_body, marked_from, tokens_from, tokens_of_list}
+use Rattle.cdk_contexts.specs.Expressions.{expressions_in}
+use Rattle.cdk_tokens.specs.Whole.{marked_body, marked_from, tokens_from, tokens_of_list}
 use Rattle.cdk_tokens.proofs.ListLemmas.{marked_from_then, tokens_from_then}
 use Rattle.cdk_tokens.proofs.whole.mark_constructs.Goals as goal
 

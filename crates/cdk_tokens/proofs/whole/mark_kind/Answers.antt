@@ -4,7 +4,8 @@ use Rattle.cdk_language.specs.Construct.{kind_view}
 use Rattle.cdk_tree.specs.TreeView.{constructs}
 use Rattle.cdk_tokens.specs.TableView.{tokens_in}
 use Rattle.cdk_tokens.specs.Views.{part_view}
-use Rattle.cdk_tokens.specs.Whole.{expressions_in, marked_body, tokens_of_list}
+use Rattle.cdk_contexts.specs.Expressions.{expressions_in}
+use Rattle.cdk_tokens.specs.Whole.{marked_body, tokens_of_list}
 use Rattle.cdk_tokens.proofs.whole.mark_kind.Goals as goal
 
 pub returns-in-Resource : goal.returns-in-Resource

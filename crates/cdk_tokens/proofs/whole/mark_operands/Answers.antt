@@ -3,7 +3,8 @@ use Rattle.serde_json.specs.View.{view as json_view}
 use Rattle.cdk_language.specs.Condition.{view}
 use Rattle.cdk_tree.specs.TreeView.{constructs}
 use Rattle.cdk_tokens.specs.TableView.{tokens_in}
-use Rattle.cdk_tokens.specs.Whole.{marked_list, operands, operands_of}
+use Rattle.cdk_contexts.specs.Expressions.{operands_of}
+use Rattle.cdk_tokens.specs.Whole.{marked_list, operands}
 use Rattle.cdk_tokens.proofs.whole.mark_operands.Goals as goal
 
 pub returns-clause-value : goal.returns-clause-value

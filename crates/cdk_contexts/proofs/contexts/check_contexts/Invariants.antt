@@ -1,7 +1,7 @@
 use Rattle.std.proofs.Common.{◌≡◌, drop}
 use Rattle.cdk_tree.specs.TreeView.{constructs}
-use Rattle.cdk_tokens.specs.Contexts.{context_findings, context_findings_from}
-use Rattle.cdk_tokens.proofs.contexts.check_contexts.Given as goal
+use Rattle.cdk_contexts.specs.Contexts.{context_findings, context_findings_from}
+use Rattle.cdk_contexts.proofs.contexts.check_contexts.Given as goal
 
 abbrev pub invariant-loop-number : goal.invariant-loop-number
 invariant-loop-number l =

@@ -7,7 +7,7 @@ use Rattle.cdk_language.specs.Runs.{Literals, is_marked_run}
 use Rattle.cdk_tree.specs.Expected.{target_at}
 use Rattle.cdk_tree.specs.PlaceFindings.{first}
 use Rattle.cdk_tree.specs.declared.role.Found.{Found}
-use Rattle.cdk_tokens.specs.Scanning.{Scans}
+use Rattle.cdk_contexts.specs.Scanning.{Scans}
 
 -- with nothing after it
 pub whole_run : (run : List ℕ) (literals : Literals) (found : Bool) (next : List ℕ) → Scans run literals found next → is_marked_run run literals ≡ (found || has_marker next)

@@ -5,9 +5,9 @@ use Rattle.cdk_tree.specs.Expected.{target_at}
 use Rattle.cdk_tree.specs.PlaceFindings.{first}
 use Rattle.cdk_tree.specs.Placed.{construct_at, nowhere}
 use Rattle.cdk_tree.specs.TreeView.{constructs}
-use Rattle.cdk_tokens.specs.Contexts.{context_findings_from, wrong_contexts_at}
-use Rattle.cdk_tokens.proofs.ContextLemmas.{first_target, same_number}
-use Rattle.cdk_tokens.proofs.contexts.check_contexts.Goals as goal
+use Rattle.cdk_contexts.specs.Contexts.{context_findings_from, wrong_contexts_at}
+use Rattle.cdk_contexts.proofs.ContextLemmas.{first_target, same_number}
+use Rattle.cdk_contexts.proofs.contexts.check_contexts.Goals as goal
 
 pub returns-in-Some-wrong : goal.returns-in-Some-wrong
 returns-in-Some-wrong c =

@@ -6,9 +6,9 @@ use Rattle.cdk_language.specs.Condition.{view, conditions_view}
 use Rattle.cdk_language.specs.Expression.{Expression}
 use Rattle.cdk_tree.specs.Placed.{construct_at}
 use Rattle.cdk_tree.specs.TreeView.{constructs}
-use Rattle.cdk_tokens.specs.Scanning.{has_flaw}
-use Rattle.cdk_tokens.specs.Whole.{operands_of, operands_of_all}
-use Rattle.cdk_tokens.proofs.contexts.+conditions.Goals as goal
+use Rattle.cdk_contexts.specs.Scanning.{has_flaw}
+use Rattle.cdk_contexts.specs.Expressions.{operands_of, operands_of_all}
+use Rattle.cdk_contexts.proofs.contexts.+conditions.Goals as goal
 
 any_of_both : (p : Expression → Bool) (xs ys : List Expression) → list_any p (xs ++ ys) ≡ (list_any p xs || list_any p ys)
 any_of_both p xs ys = grind (arith, common_steps)

@@ -2,8 +2,8 @@ use Rattle.std.proofs.Common.{◌≡◌, drop}
 use Rattle.cdk_language.specs.Expression.{expressions_view, fields_view}
 use Rattle.cdk_tree.specs.Placed.{construct_at}
 use Rattle.cdk_tree.specs.TreeView.{constructs}
-use Rattle.cdk_tokens.specs.Contexts.{any_marked_run, fields_marked_run}
-use Rattle.cdk_tokens.proofs.contexts.+marked.Given as goal
+use Rattle.cdk_contexts.specs.Contexts.{any_marked_run, fields_marked_run}
+use Rattle.cdk_contexts.proofs.contexts.+marked.Given as goal
 
 abbrev pub invariant-any_marked_run-loop-item : goal.invariant-any_marked_run-loop-item
 invariant-any_marked_run-loop-item l =

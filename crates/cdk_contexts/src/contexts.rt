@@ -13,10 +13,10 @@ ghost use Rattle.cdk_language.specs.Runs.{is_marked_run, no_literal};
 ghost use Rattle.cdk_tree.specs.PlaceFindings.{first};
 ghost use Rattle.cdk_tree.specs.Placed.{construct_at, found_value as spec_found_value};
 ghost use Rattle.cdk_tree.specs.TreeView.{constructs};
-ghost use Rattle.cdk_tokens.specs.Answers.{FindsFirst};
-ghost use Rattle.cdk_tokens.specs.Contexts.{any_marked_run as spec_any_marked_run, any_misses_context, context_findings, fields_marked_run as spec_fields_marked_run, fields_miss_context, has_marked_run as spec_has_marked_run, literals_of, misses_context as spec_misses_context, pieces_literals, wrong_contexts_at};
-ghost use Rattle.cdk_tokens.specs.Scanning.{Scans, has_flaw as spec_has_flaw};
-ghost use Rattle.cdk_tokens.specs.Whole.{expressions_in, operands_of, operands_of_all};
+ghost use Rattle.cdk_contexts.specs.Answers.{FindsFirst};
+ghost use Rattle.cdk_contexts.specs.Contexts.{any_marked_run as spec_any_marked_run, any_misses_context, context_findings, fields_marked_run as spec_fields_marked_run, fields_miss_context, has_marked_run as spec_has_marked_run, literals_of, misses_context as spec_misses_context, pieces_literals, wrong_contexts_at};
+ghost use Rattle.cdk_contexts.specs.Scanning.{Scans, has_flaw as spec_has_flaw};
+ghost use Rattle.cdk_contexts.specs.Expressions.{expressions_in, operands_of, operands_of_all};
 
 use cdk_base::{Code, List, Text, Value, has_marker, text_of};
 use cdk_language::{Cond, Expr, Field, Kind};
@@ -25,7 +25,7 @@ use serde_json::Number;
 use std::alloc::{AllocError, Global};
 
 /// What a Context of the construct finds: the value of its key in the nearest scope, else its default.
-pub(crate) fn found_value<'a>(
+pub fn found_value<'a>(
     tree: &'a Tree,
     at: NodeId,
     key: &str,
@@ -433,7 +433,7 @@ fn wrong_context(alloc: Global, tree: &Tree, at: NodeId) -> Result<Option<Code>,
 /// - `NoContext`: no scope has the key of a Context that has no default.
 ///
 /// `Memory` where none is found.
-pub(crate) fn check_contexts(alloc: Global, tree: &Tree) -> Result<(), PassError>
+pub fn check_contexts(alloc: Global, tree: &Tree) -> Result<(), PassError>
     ensures { FindsFirst result (context_findings (constructs tree.now)) }
 {
     for number in 0..tree.len() {

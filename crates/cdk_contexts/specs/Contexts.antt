@@ -14,7 +14,7 @@ use Rattle.cdk_tree.specs.Expected.{target_at}
 use Rattle.cdk_tree.specs.PlaceFindings.{when}
 use Rattle.cdk_tree.specs.Placed.{Placed, found_value}
 use Rattle.cdk_tree.specs.declared.role.Found.{Found}
-use Rattle.cdk_tokens.specs.Whole.{expressions_in}
+use Rattle.cdk_contexts.specs.Expressions.{expressions_in}
 
 -- the texts of an expression as a piece, those of a Concat one by one; what is no literal ends a run, and so does a Context
 -- that finds no text

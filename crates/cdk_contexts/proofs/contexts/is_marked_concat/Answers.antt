@@ -4,9 +4,9 @@ use Rattle.cdk_language.specs.Expression.{expressions_view}
 use Rattle.cdk_language.specs.Runs.{is_marked_run}
 use Rattle.cdk_tree.specs.Placed.{construct_at}
 use Rattle.cdk_tree.specs.TreeView.{constructs}
-use Rattle.cdk_tokens.specs.Contexts.{pieces_literals}
-use Rattle.cdk_tokens.proofs.ContextLemmas.{whole_run}
-use Rattle.cdk_tokens.proofs.contexts.is_marked_concat.Goals as goal
+use Rattle.cdk_contexts.specs.Contexts.{pieces_literals}
+use Rattle.cdk_contexts.proofs.ContextLemmas.{whole_run}
+use Rattle.cdk_contexts.proofs.contexts.is_marked_concat.Goals as goal
 
 pub returns-then-branch : goal.returns-then-branch
 returns-then-branch c =

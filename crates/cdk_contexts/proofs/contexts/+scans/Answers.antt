@@ -4,8 +4,8 @@ use Rattle.cdk_language.specs.Expression.{expressions_view, view}
 use Rattle.cdk_language.specs.Runs.{is_marked_run}
 use Rattle.cdk_tree.specs.Placed.{construct_at}
 use Rattle.cdk_tree.specs.TreeView.{constructs}
-use Rattle.cdk_tokens.specs.Contexts.{literals_of, pieces_literals}
-use Rattle.cdk_tokens.proofs.contexts.+scans.Goals as goal
+use Rattle.cdk_contexts.specs.Contexts.{literals_of, pieces_literals}
+use Rattle.cdk_contexts.proofs.contexts.+scans.Goals as goal
 
 pub scan_pieces-loop-piece-preserved : goal.scan_pieces-loop-piece-preserved
 scan_pieces-loop-piece-preserved t c = λ more.

@@ -3,9 +3,9 @@ use Rattle.std.proofs.lemmas.List.{drop_all, drop_more}
 use Rattle.cdk_language.specs.Expression.{expressions_view, fields_view, view}
 use Rattle.cdk_tree.specs.Placed.{construct_at}
 use Rattle.cdk_tree.specs.TreeView.{constructs}
-use Rattle.cdk_tokens.specs.Contexts.{any_marked_run, fields_marked_run, has_marked_run}
-use Rattle.cdk_tokens.proofs.MarkingLemmas.{seen_field}
-use Rattle.cdk_tokens.proofs.contexts.+marked.Goals as goal
+use Rattle.cdk_contexts.specs.Contexts.{any_marked_run, fields_marked_run, has_marked_run}
+use Rattle.cdk_contexts.proofs.Seen.{seen_field}
+use Rattle.cdk_contexts.proofs.contexts.+marked.Goals as goal
 
 pub any_marked_run-loop-item-preserved : goal.any_marked_run-loop-item-preserved
 any_marked_run-loop-item-preserved t c =

@@ -3,9 +3,9 @@ use Rattle.std.specs.List.{list_any}
 use Rattle.cdk_language.specs.Condition.{conditions_view}
 use Rattle.cdk_tree.specs.Placed.{construct_at}
 use Rattle.cdk_tree.specs.TreeView.{constructs}
-use Rattle.cdk_tokens.specs.Scanning.{has_flaw}
-use Rattle.cdk_tokens.specs.Whole.{operands_of_all}
-use Rattle.cdk_tokens.proofs.contexts.+conditions.Given as goal
+use Rattle.cdk_contexts.specs.Scanning.{has_flaw}
+use Rattle.cdk_contexts.specs.Expressions.{operands_of_all}
+use Rattle.cdk_contexts.proofs.contexts.+conditions.Given as goal
 
 abbrev pub invariant-part_has_flaw-loop-part : goal.invariant-part_has_flaw-loop-part
 invariant-part_has_flaw-loop-part l =

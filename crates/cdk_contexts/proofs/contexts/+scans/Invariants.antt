@@ -3,8 +3,8 @@ use Rattle.cdk_language.specs.Expression.{expressions_view}
 use Rattle.cdk_language.specs.Runs.{Literals, is_marked_run}
 use Rattle.cdk_tree.specs.Placed.{construct_at}
 use Rattle.cdk_tree.specs.TreeView.{constructs}
-use Rattle.cdk_tokens.specs.Contexts.{pieces_literals}
-use Rattle.cdk_tokens.proofs.contexts.+scans.Given as goal
+use Rattle.cdk_contexts.specs.Contexts.{pieces_literals}
+use Rattle.cdk_contexts.proofs.contexts.+scans.Given as goal
 
 abbrev pub invariant-scan_pieces-loop-piece : goal.invariant-scan_pieces-loop-piece
 invariant-scan_pieces-loop-piece l =

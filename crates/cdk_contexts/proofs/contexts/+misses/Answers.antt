@@ -3,9 +3,9 @@ use Rattle.std.proofs.lemmas.List.{drop_all, drop_more}
 use Rattle.cdk_language.specs.Expression.{expressions_view, fields_view, view}
 use Rattle.cdk_tree.specs.Placed.{construct_at}
 use Rattle.cdk_tree.specs.TreeView.{constructs}
-use Rattle.cdk_tokens.specs.Contexts.{any_misses_context, fields_miss_context, misses_context}
-use Rattle.cdk_tokens.proofs.MarkingLemmas.{seen_field}
-use Rattle.cdk_tokens.proofs.contexts.+misses.Goals as goal
+use Rattle.cdk_contexts.specs.Contexts.{any_misses_context, fields_miss_context, misses_context}
+use Rattle.cdk_contexts.proofs.Seen.{seen_field}
+use Rattle.cdk_contexts.proofs.contexts.+misses.Goals as goal
 
 pub item_misses_context-loop-item-preserved : goal.item_misses_context-loop-item-preserved
 item_misses_context-loop-item-preserved t c =

@@ -5,9 +5,9 @@ use Rattle.cdk_language.specs.Construct.{Body, kind_view}
 use Rattle.cdk_tree.specs.PlaceFindings.{first, when}
 use Rattle.cdk_tree.specs.Placed.{Placed, construct_at}
 use Rattle.cdk_tree.specs.TreeView.{constructs}
-use Rattle.cdk_tokens.specs.Contexts.{has_marked_run, misses_context, wrong_contexts_at}
-use Rattle.cdk_tokens.specs.Whole.{expressions_in}
-use Rattle.cdk_tokens.proofs.contexts.wrong_context.Goals as goal
+use Rattle.cdk_contexts.specs.Contexts.{has_marked_run, misses_context, wrong_contexts_at}
+use Rattle.cdk_contexts.specs.Expressions.{expressions_in}
+use Rattle.cdk_contexts.proofs.contexts.wrong_context.Goals as goal
 
 -- what is wrong, by the two tests
 wrong_by : (p : Placed) (b : Body) (marked missing : Bool) → b ≡ p.body → marked ≡ list_any (has_marked_run p.contexts) (expressions_in b) → missing ≡ list_any (misses_context p.contexts) (expressions_in b)

@@ -2,8 +2,8 @@ use Rattle.std.proofs.Common.{◌≡◌, drop}
 use Rattle.cdk_language.specs.Expression.{expressions_view, fields_view}
 use Rattle.cdk_tree.specs.Placed.{construct_at}
 use Rattle.cdk_tree.specs.TreeView.{constructs}
-use Rattle.cdk_tokens.specs.Contexts.{any_misses_context, fields_miss_context}
-use Rattle.cdk_tokens.proofs.contexts.+misses.Given as goal
+use Rattle.cdk_contexts.specs.Contexts.{any_misses_context, fields_miss_context}
+use Rattle.cdk_contexts.proofs.contexts.+misses.Given as goal
 
 abbrev pub invariant-item_misses_context-loop-item : goal.invariant-item_misses_context-loop-item
 invariant-item_misses_context-loop-item l =

@@ -3,9 +3,9 @@ use Rattle.std.specs.Prelude.{◌≡◌, ℕ, ◌||◌, List, ◌++◌, Bool}
 use Rattle.serde_json.specs.Data.{Members}
 use Rattle.cdk_language.specs.Expression.{Expression}
 use Rattle.cdk_language.specs.Runs.{Literals, is_marked_run}
-use Rattle.cdk_tokens.specs.Contexts.{has_marked_run, misses_context}
-use Rattle.cdk_tokens.specs.declared.contexts.Flaw.{Flaw}
-use Rattle.cdk_tokens.specs.declared.contexts.Flaw.TheVariants as flaws
+use Rattle.cdk_contexts.specs.Contexts.{has_marked_run, misses_context}
+use Rattle.cdk_contexts.specs.declared.contexts.Flaw.{Flaw}
+use Rattle.cdk_contexts.specs.declared.contexts.Flaw.TheVariants as flaws
 
 -- The run goes on with the literals: one that ended in them held the beginning of a marker, or the run is now the next one. What
 -- comes after is whatever it is.

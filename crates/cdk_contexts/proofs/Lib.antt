@@ -1,0 +1,3 @@
+mod ContextLemmas
+mod Examples
+pub mod Seen

@@ -1,0 +1,4 @@
+pub mod Expressions
+pub mod Contexts
+pub mod Answers
+pub mod Scanning
