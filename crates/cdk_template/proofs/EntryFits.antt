@@ -12,7 +12,9 @@ use Rattle.cdk_language.specs.Construct.{OutputBody, ParameterBody, ResourceBody
 use Rattle.cdk_language.specs.declared.construct.Policy.{Policy}
 use Rattle.cdk_meaning.specs.StackTemplate.{EachMember}
 use Rattle.cdk_template.specs.Laws.{IsObject, IsWholeMapping, IsWholeObject, IsWholeValue}
-use Rattle.cdk_template.specs.Template.{Spelling, export_name, form_name, if_given, members_of, output_entry, parameter_entry, path_metadata, policy_name, resource_entry, texts, unless_empty, unless_none}
+use Rattle.cdk_template.specs.Template.{Spelling, output_entry, resource_entry}
+use Rattle.cdk_entries.specs.Entries.{export_name, form_name, parameter_entry, path_metadata, policy_name}
+use Rattle.cdk_entries.specs.Members.{if_given, members_of, texts, unless_empty, unless_none}
 use Rattle.cdk_template.proofs.FitLemmas.{AreFit, IsFit, IsFitGiven, above_given, any_fit, any_object, given_fit, member_fit, no_members_fit, object_fit, text_fit, unless_empty_fit}
 use Rattle.cdk_template.proofs.SectionLemmas.{passed_given}
 

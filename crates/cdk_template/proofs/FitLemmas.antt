@@ -11,7 +11,7 @@ use Rattle.cdk_eval.specs.Form.{fits, in_items, in_members, inside, member_role,
 use Rattle.cdk_eval.specs.declared.role.Role.{Role}
 use Rattle.cdk_eval.specs.declared.role.Role.TheVariants.{AnyObject, Anything, AnyText}
 use Rattle.cdk_template.specs.Laws.{IsWholeObject}
-use Rattle.cdk_template.specs.Template.{if_given, members_of, unless_empty}
+use Rattle.cdk_entries.specs.Members.{if_given, members_of, unless_empty}
 
 -- a value at a place of the role, at most so deep
 pub record IsFit (role : Role) (n : ℕ) (d : Data) : Type 0 where

@@ -15,7 +15,9 @@ use Rattle.cdk_meaning.specs.Sections.{IsSection}
 use Rattle.cdk_meaning.proofs.Sections.{sections_hold}
 use Rattle.cdk_stacks.specs.Claims.{name_findings}
 use Rattle.cdk_template.specs.Own.{spelling_of}
-use Rattle.cdk_template.specs.Template.{Spelling, description_of, entry_of, export_name, form_name, if_given, members_of, non_empty, output_entry, parameter_entry, path_metadata, policy_name, resource_entry, section_of, template_of, unless_empty, unless_none, with_generated}
+use Rattle.cdk_template.specs.Template.{Spelling, entry_of, output_entry, resource_entry, section_of, template_of, with_generated}
+use Rattle.cdk_entries.specs.Entries.{description_of, export_name, form_name, parameter_entry, path_metadata, policy_name}
+use Rattle.cdk_entries.specs.Members.{if_given, members_of, non_empty, unless_empty, unless_none}
 use Rattle.cdk_template.proofs.MemberLemmas.{conditions_in, described_in, mappings_in, outputs_in, parameters_in, resources_in}
 use Rattle.cdk_template.proofs.NumberLemmas.{AreElements, both_names_apart, names_apart}
 use Rattle.cdk_tree.specs.Expected.{is_condition, is_mapping, is_parameter, is_resource}

@@ -12,7 +12,9 @@ use Rattle.cdk_language.specs.Construct as language
 use Rattle.cdk_language.specs.Construct.{Body}
 use Rattle.cdk_template.specs.Laws.{HasWholeValue, HasWholeValues, TemplatesAreUnmarked, TemplatesAreWhole}
 use Rattle.cdk_template.specs.Own.{spelling_of}
-use Rattle.cdk_template.specs.Template.{Spelling, description_of, entry_in, entry_of, non_empty, section_of, template_of, unless_empty}
+use Rattle.cdk_template.specs.Template.{Spelling, entry_in, entry_of, section_of, template_of}
+use Rattle.cdk_entries.specs.Entries.{description_of}
+use Rattle.cdk_entries.specs.Members.{non_empty, unless_empty}
 use Rattle.cdk_template.proofs.EntryFits.{mapping_fit, output_fit, parameter_fit, resource_fit}
 use Rattle.cdk_template.proofs.FitLemmas.{AreFit, HasMembers, IsFit, IsFitGiven, above_given, any_fit, any_object_fit, given_fit, no_members_fit, object_fit, put_fit, unless_empty_fit}
 use Rattle.cdk_template.proofs.MarkerLemmas.{unmarked}

@@ -1,17 +1,14 @@
 -- Members that are put in where they are given, and a section filled while constructs are looked at (own).
-use Rattle.std.specs.Prelude.{ℕ, ◌&&◌, List, Bool, Option, Some, None, option_map, codes, if◌then◌else◌}
-use Rattle.serde_json.specs.Data.{Data, string, Members, no_members, member, put}
+use Rattle.std.specs.Prelude.{ℕ, ◌&&◌, List, Bool, codes, if◌then◌else◌}
+use Rattle.serde_json.specs.Data.{Members, put}
 use Rattle.cdk_elements.specs.Kinds.{is_in, is_output}
-use Rattle.cdk_language.specs.Construct.{Body, OutputBody, ResourceBody}
+use Rattle.cdk_language.specs.Construct.{Body}
 use Rattle.cdk_tree.specs.Expected.{is_condition, is_mapping, is_parameter, is_resource}
 use Rattle.cdk_tree.specs.Placed.{Placed, construct_at}
-use Rattle.cdk_template.specs.Template.{Spelling, entry_of, export_name, if_given, members_of, path_metadata, policy_name, section_of, unless_empty}
+use Rattle.cdk_template.specs.Template.{Spelling, entry_of, section_of}
+use Rattle.cdk_entries.specs.Members.{put_given, unless_empty}
 use Rattle.cdk_template.specs.declared.section.Section.{Section}
 use Rattle.cdk_template.specs.declared.section.Section.TheVariants as sections
-
-abbrev pub put_given : List ℕ → Option Data → Members → Members
-put_given k None ms = ms
-put_given k (Some d) ms = put k d ms
 
 -- ---- sections
 
@@ -37,24 +34,3 @@ with_entry cs s stack kind n ms = if is_in stack (construct_at cs n).stack && ki
 -- with a stack's section, where it isn't empty
 abbrev pub with_section : List Placed → Spelling → ℕ → Section → Members → Members
 with_section cs s stack section ms = put_given (section_key section) (unless_empty (section_of cs s stack (has_kind section))) ms
-
--- ---- entries with a value as it is rendered
-
--- of a resource that waits for no other
-abbrev pub resource_with : Spelling → List ℕ → ResourceBody → Data → Members
-resource_with s path r properties =
-    if_given (codes "Condition") (option_map (λ t. string (s.named t)) r.condition)
-    (if_given (codes "DeletionPolicy") (option_map (λ p. string (policy_name p)) r.deletion)
-    (member (codes "Metadata") (path_metadata path)
-    (if_given (codes "Properties") (unless_empty (members_of properties))
-    (member (codes "Type") (string r.resource_type)
-    (if_given (codes "UpdateReplacePolicy") (option_map (λ p. string (policy_name p)) r.replace)
-    no_members)))))
-
-abbrev pub output_with : Spelling → OutputBody → Data → Members
-output_with s o value =
-    if_given (codes "Condition") (option_map (λ t. string (s.named t)) o.condition)
-    (if_given (codes "Description") (option_map string o.description)
-    (if_given (codes "Export") (option_map export_name o.export)
-    (member (codes "Value") value
-    no_members)))

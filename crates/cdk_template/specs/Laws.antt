@@ -11,7 +11,8 @@ use Rattle.cdk_meaning.specs.StackTemplate.{EachMember}
 use Rattle.cdk_stacks.specs.Claims.{name_findings}
 use Rattle.cdk_template.specs.Markers.{marker_findings}
 use Rattle.cdk_template.specs.Own.{spelling_of}
-use Rattle.cdk_template.specs.Template.{Spelling, members_of, template_of}
+use Rattle.cdk_template.specs.Template.{Spelling, template_of}
+use Rattle.cdk_entries.specs.Members.{members_of}
 use Rattle.cdk_tree.specs.Placed.{Placed, construct_at, is_stack}
 
 -- ---- values

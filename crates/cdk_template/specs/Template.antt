@@ -1,15 +1,13 @@
 -- The template of a stack, of its constructs in walk order (CloudFormation's template anatomy; the metadata's path is AWS CDK's).
-use Rattle.std.specs.Prelude.{ℕ, List, [], ◌∷◌, Bool, Option, Some, None, option_map, codes}
-use Rattle.serde_json.specs.Data.{Data, string, array, object, Items, no_items, item, Members, no_members, member, put}
+use Rattle.std.specs.Prelude.{ℕ, List, [], ◌∷◌, Bool, option_map, codes}
+use Rattle.serde_json.specs.Data.{Data, string, object, Members, no_members, member, put}
 use Rattle.cdk_elements.specs.Kinds.{is_output, of_kind}
+use Rattle.cdk_entries.specs.Entries.{description_of, export_name, fixed_entry, path_metadata, policy_name}
+use Rattle.cdk_entries.specs.Members.{if_given, members_of, non_empty, unless_empty, unless_none}
 use Rattle.cdk_language.specs.Condition.{Condition}
 use Rattle.cdk_language.specs.Construct as language
-use Rattle.cdk_language.specs.Construct.{Body, ResourceBody, ParameterBody, OutputBody}
+use Rattle.cdk_language.specs.Construct.{Body, ResourceBody, OutputBody}
 use Rattle.cdk_language.specs.Expression.{Expression}
-use Rattle.cdk_language.specs.declared.construct.ParameterForm.{ParameterForm}
-use Rattle.cdk_language.specs.declared.construct.ParameterForm.TheVariants as forms
-use Rattle.cdk_language.specs.declared.construct.Policy.{Policy}
-use Rattle.cdk_language.specs.declared.construct.Policy.TheVariants as policies
 use Rattle.cdk_meaning.specs.Sections.{filled}
 use Rattle.cdk_tree.specs.Expected.{is_resource, is_parameter, is_condition, is_mapping}
 use Rattle.cdk_tree.specs.Placed.{Placed, construct_at}
@@ -28,50 +26,7 @@ pub record Spelling : Type 0 where
   -- outputs that no construct of the application is, by their logical names
   pub generated : List (List ℕ × Data)
 
--- ---- members
-
--- the member where it is given, before the rest
-abbrev pub if_given : List ℕ → Option Data → Members → Members
-if_given k None rest = rest
-if_given k (Some d) rest = member k d rest
-
--- the object of these members, where there are any
-abbrev pub unless_empty : Members → Option Data
-unless_empty no_members = None
-unless_empty (member k d ms) = Some (object (member k d ms))
-
-abbrev pub texts : List (List ℕ) → Items
-texts [] = no_items
-texts (t ∷ ts) = item (string t) (texts ts)
-
-abbrev pub unless_none : List (List ℕ) → Option Data
-unless_none [] = None
-unless_none (t ∷ ts) = Some (array (texts (t ∷ ts)))
-
-abbrev pub non_empty : Option (List ℕ) → Option Data
-non_empty None = None
-non_empty (Some []) = None
-non_empty (Some (c ∷ s)) = Some (string (c ∷ s))
-
-abbrev pub policy_name : Policy → List ℕ
-policy_name policies.Delete = codes "Delete"
-policy_name policies.Retain = codes "Retain"
-policy_name policies.Snapshot = codes "Snapshot"
-
-abbrev pub form_name : ParameterForm → List ℕ
-form_name forms.Text = codes "String"
-form_name forms.Number = codes "Number"
-form_name forms.List = codes "CommaDelimitedList"
-
--- the members of an object
-abbrev pub members_of : Data → Members
-members_of (object ms) = ms
-members_of d = no_members
-
 -- ---- entries: keys in byte order
-
-abbrev pub path_metadata : List ℕ → Data
-path_metadata path = object (member (codes "aws:cdk:path") (string path) no_members)
 
 abbrev pub resource_entry : Spelling → ℕ → List ℕ → ResourceBody → Data
 resource_entry s n path r =
@@ -84,16 +39,6 @@ resource_entry s n path r =
     (if_given (codes "UpdateReplacePolicy") (option_map (λ p. string (policy_name p)) r.replace)
     no_members)))))))
 
-abbrev pub parameter_entry : ParameterBody → Data
-parameter_entry p =
-    object (if_given (codes "Default") (option_map string p.default)
-    (if_given (codes "Description") (option_map string p.description)
-    (member (codes "Type") (string (form_name p.form))
-    no_members)))
-
-abbrev pub export_name : List ℕ → Data
-export_name t = object (member (codes "Name") (string t) no_members)
-
 abbrev pub output_entry : Spelling → ℕ → OutputBody → Data
 output_entry s n o =
     object (if_given (codes "Condition") (option_map (λ t. string (s.named t)) o.condition)
@@ -105,11 +50,9 @@ output_entry s n o =
 -- what stands in a template for a construct of a path
 abbrev pub entry_in : Spelling → ℕ → List ℕ → Body → Data
 entry_in s n path (language.resource r) = resource_entry s n path r
-entry_in s n path (language.parameter p) = parameter_entry p
 entry_in s n path (language.condition_body c) = s.condition n c
-entry_in s n path (language.mapping m) = object m
 entry_in s n path (language.output o) = output_entry s n o
-entry_in s n path b = object no_members
+entry_in s n path b = fixed_entry b
 
 abbrev pub entry_of : Spelling → ℕ → Placed → Data
 entry_of s n c = entry_in s n c.path c.body
@@ -123,10 +66,6 @@ with_generated (o ∷ os) ms = with_generated os (put o.0 o.1 ms)
 -- the entries of a kind, by their logical names
 abbrev pub section_of : List Placed → Spelling → ℕ → (Body → Bool) → Members
 section_of cs s stack kind = filled s.logical (λ n. entry_of s n (construct_at cs n)) (of_kind cs stack kind) no_members
-
-abbrev pub description_of : Body → Option (List ℕ)
-description_of (language.stack d) = d
-description_of b = None
 
 -- each section where it isn't empty
 abbrev pub template_of : List Placed → Spelling → ℕ → Data

@@ -1,7 +1,6 @@
 // What stands in a template for a construct.
 ghost use Rattle.std.specs.Prelude.{◌≡◌, ◌<◌, length, IfOk};
-ghost use Rattle.serde_json.specs.Data.{object};
-ghost use Rattle.serde_json.specs.View.{members_view, view};
+ghost use Rattle.serde_json.specs.View.{view};
 ghost use Rattle.cdk_language.specs.Construct.{kind_view};
 ghost use Rattle.cdk_tree.specs.Placed.{construct_at};
 ghost use Rattle.cdk_template.specs.Own.{spelling_of};
@@ -9,21 +8,15 @@ ghost use Rattle.cdk_template.specs.Sources.{AreSources, RendersOwn, constructs_
 ghost use Rattle.cdk_template.specs.Template.{entry_in, entry_of};
 
 use crate::outputs::output_entry;
-use crate::parameters::parameter_entry;
 use crate::resources::resource_entry;
 use crate::sources::Sources;
 use crate::values::condition_of;
-use cdk_base::{Map, Value};
+use cdk_base::Value;
+use cdk_entries::fixed_entry;
 use cdk_language::Kind;
 use cdk_resolve::Kept;
 use cdk_tree::NodeId;
 use std::alloc::AllocError;
-
-fn mapping_entry(members: &Map) -> Result<Value, AllocError>
-    ensures { IfOk result (λ v. view v ≡ object (members_view members.now.entries)) }
-{
-    Ok(Value::Object(members.clone()?))
-}
 
 fn entry_of_kind(
     sources: &Sources<'_>,
@@ -40,13 +33,15 @@ fn entry_of_kind(
 {
     match kind {
         Kind::Resource(resource) => resource_entry(sources, kept, at, resource),
-        Kind::Parameter(parameter) => parameter_entry(sources.alloc, parameter),
         Kind::Condition(_) => condition_of(sources, kept, at),
-        Kind::Mapping(members) => mapping_entry(members),
         Kind::Output(output) => output_entry(sources, kept, at, output),
-        Kind::App | Kind::Stage | Kind::Stack { .. } | Kind::Group | Kind::Lazy(_) => Ok(
-            Value::Object(Map::new(sources.alloc)),
-        ),
+        Kind::App
+        | Kind::Stage
+        | Kind::Stack { .. }
+        | Kind::Group
+        | Kind::Parameter(_)
+        | Kind::Mapping(_)
+        | Kind::Lazy(_) => fixed_entry(sources.alloc, kind),
     }
 }
 

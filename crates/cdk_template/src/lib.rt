@@ -4,11 +4,7 @@
 mod counts;
 mod entries;
 mod laws;
-mod markers;
-mod members;
-mod naming;
 mod outputs;
-mod parameters;
 mod resources;
 mod room;
 mod section;

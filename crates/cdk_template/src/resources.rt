@@ -1,46 +1,20 @@
 // What stands in a template for a resource.
-ghost use Rattle.std.specs.Prelude.{◌≡◌, ◌<◌, length, IfOk, OnOk};
-ghost use Rattle.serde_json.specs.Data.{no_members};
-ghost use Rattle.serde_json.specs.View.{members_view, view};
+ghost use Rattle.std.specs.Prelude.{◌≡◌, ◌<◌, length, IfOk};
+ghost use Rattle.serde_json.specs.View.{view};
 ghost use Rattle.cdk_language.specs.Construct.{resource as resource_body, resource_view};
 ghost use Rattle.cdk_tree.specs.Placed.{construct_at};
-ghost use Rattle.cdk_template.specs.Entries.{resource_with};
 ghost use Rattle.cdk_template.specs.Own.{spelling_of};
 ghost use Rattle.cdk_template.specs.Sources.{AreSources, RendersOwn, constructs_in};
 ghost use Rattle.cdk_template.specs.Template.{resource_entry as spec_resource_entry};
 
-use crate::members::{put_members_of, put_object_of_text, put_policy, put_text};
-use crate::naming::put_condition;
 use crate::sources::Sources;
 use crate::values::value_of;
 use cdk_base::{Map, Value};
+use cdk_entries::put_resource;
 use cdk_language::Resource;
 use cdk_resolve::Kept;
 use cdk_tree::NodeId;
 use std::alloc::AllocError;
-
-/// Puts the members of a resource's entry in.
-fn put_resource(
-    entry: &mut Map,
-    sources: &Sources<'_>,
-    at: NodeId,
-    resource: &Resource,
-    properties: Value,
-) -> Result<(), AllocError>
-    requires within { at < length (constructs_in sources.now) }
-    requires sources { AreSources sources.now }
-    requires empty { members_view entry.old.entries ≡ no_members }
-    ensures { OnOk result (members_view entry.new.entries ≡ resource_with (spelling_of (constructs_in sources.now)) (construct_at (constructs_in sources.now) at).path (resource_view resource.now) (view properties)) }
-{
-    let alloc = sources.alloc;
-    let path = sources.tree.path_of(at);
-    put_members_of(entry, alloc, "Properties", properties)?;
-    put_policy(entry, alloc, "UpdateReplacePolicy", resource.replace)?;
-    put_text(entry, alloc, "Type", resource.resource_type.as_str())?;
-    put_object_of_text(entry, alloc, "Metadata", "aws:cdk:path", path)?;
-    put_policy(entry, alloc, "DeletionPolicy", resource.deletion)?;
-    put_condition(entry, sources, &resource.condition)
-}
 
 /// The entry of a resource.
 pub(crate) fn resource_entry(
@@ -58,6 +32,6 @@ pub(crate) fn resource_entry(
 {
     let properties = value_of(sources, kept, at)?;
     let mut entry = Map::new(sources.alloc);
-    put_resource(&mut entry, sources, at, resource, properties)?;
+    put_resource(&mut entry, &sources.named(), at, resource, properties)?;
     Ok(Value::Object(entry))
 }

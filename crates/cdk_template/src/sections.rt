@@ -1,5 +1,5 @@
 // The sections of a stack's template that hold constructs.
-ghost use Rattle.std.specs.Prelude.{◌≡◌, ◌<◌, length, IfOk, OnOk};
+ghost use Rattle.std.specs.Prelude.{◌≡◌, ◌<◌, length, OnOk};
 ghost use Rattle.serde_json.specs.Data.{no_members};
 ghost use Rattle.serde_json.specs.View.{members_view};
 ghost use Rattle.cdk_template.specs.Entries.{has_kind, with_entry, with_section};
@@ -9,14 +9,12 @@ ghost use Rattle.cdk_template.specs.Template.{section_of};
 
 use crate::counts::is_in;
 use crate::entries::entry;
-use crate::members::put_object_unless_empty;
-use crate::naming::logical_name;
 use crate::section::Section;
 use crate::sources::Sources;
 use cdk_base::Map;
+use cdk_entries::{put_named, put_object_unless_empty};
 use cdk_resolve::Kept;
 use cdk_tree::NodeId;
-use serde_json::put;
 use std::alloc::AllocError;
 
 /// Puts the entry of the construct in where the section holds it.
@@ -37,9 +35,8 @@ fn put_entry(
     if !is_in(sources.tree, at, stack) || !section.holds(&sources.tree.node(at).kind) {
         return Ok(());
     }
-    let name = logical_name(sources, at);
     let entry = entry(sources, kept, at)?;
-    put(entries, sources.alloc, name, entry)
+    put_named(entries, &sources.named(), at, entry)
 }
 
 fn put_entries(

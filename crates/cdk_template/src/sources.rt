@@ -4,6 +4,7 @@ ghost use Rattle.cdk_resolve.specs.KeptView.{IsRight, kept_scope};
 ghost use Rattle.cdk_template.specs.Sources.{AreSources, scope_in};
 
 use cdk_base::List;
+use cdk_entries::Named;
 use cdk_homes::Homes;
 use cdk_resolve::Kept;
 use cdk_stacks::Names;
@@ -27,6 +28,19 @@ pub struct Sources<'a> {
     pub homes: &'a Homes,
     /// The lazies, each behind those that it mentions, as `cdk_lazies::lazy_order` answers them.
     pub order: &'a List<NodeId>,
+}
+
+impl<'a> Sources<'a> {
+    /// The tree with its names alone.
+    pub(crate) fn named(&self) -> Named<'a>
+        ensures { result ≡ record { alloc = self.now.alloc; tree = self.now.tree; names = self.now.names } }
+    {
+        Named {
+            alloc: self.alloc,
+            tree: self.tree,
+            names: self.names,
+        }
+    }
 }
 
 /// What renders the values of a stack, with nothing kept yet. It takes no memory.

@@ -1,35 +1,20 @@
 // The template of a stack.
-ghost use Rattle.std.specs.Prelude.{◌≡◌, ◌<◌, codes, length, IfOk, OnOk};
+ghost use Rattle.std.specs.Prelude.{◌≡◌, ◌<◌, length, IfOk, OnOk};
 ghost use Rattle.serde_json.specs.Data.{no_members, object};
 ghost use Rattle.serde_json.specs.View.{members_view, view};
-ghost use Rattle.cdk_language.specs.Construct.{kind_view};
-ghost use Rattle.cdk_template.specs.Entries.{put_given};
 ghost use Rattle.cdk_template.specs.Markers.{IsTemplate};
 ghost use Rattle.cdk_template.specs.Own.{spelling_of};
 ghost use Rattle.cdk_template.specs.Sources.{AreSources, RendersOwn, SpellsOwn, constructs_in, scope_in};
-ghost use Rattle.cdk_template.specs.Template.{description_of, non_empty, template_of};
+ghost use Rattle.cdk_template.specs.Template.{template_of};
 
-use crate::markers::holds_marker;
-use crate::members::put_text_unless_empty;
 use crate::section::Section;
 use crate::sections::put_section;
 use crate::sources::{Sources, kept_for};
 use cdk_base::{Code, Map, Value};
-use cdk_language::Kind;
+use cdk_entries::{holds_marker, put_description};
 use cdk_resolve::Kept;
 use cdk_tree::{Found, NodeId, PassError};
-use std::alloc::{AllocError, Global};
-
-fn put_description(sections: &mut Map, alloc: Global, kind: &Kind) -> Result<(), AllocError>
-    ensures { OnOk result (members_view sections.new.entries ≡ put_given (codes "Description") (non_empty (description_of (kind_view kind.now))) (members_view sections.old.entries)) }
-{
-    match kind {
-        Kind::Stack {
-            description: Some(text),
-        } => put_text_unless_empty(sections, alloc, "Description", text.as_str()),
-        _ => Ok(()),
-    }
-}
+use std::alloc::AllocError;
 
 fn put_sections(
     sections: &mut Map,

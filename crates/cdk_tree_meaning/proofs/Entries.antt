@@ -13,7 +13,8 @@ use Rattle.cdk_meaning.specs.StackTemplate.{IsMappingEntry, IsParameterEntry, Is
 use Rattle.cdk_mentions.specs.Laws.{IsGuarded, guard_of}
 use Rattle.cdk_plain.specs.Rendered.{rendered_condition}
 use Rattle.cdk_template.specs.Own.{spelling_of}
-use Rattle.cdk_template.specs.Template.{entry_in, form_name}
+use Rattle.cdk_template.specs.Template.{entry_in}
+use Rattle.cdk_entries.specs.Entries.{form_name}
 use Rattle.cdk_template.proofs.SectionLemmas.{its_condition, its_default, its_type}
 use Rattle.cdk_tokens.specs.Marking.{target}
 use Rattle.cdk_tree.specs.Expected.{is_condition, is_mapping, is_parameter, is_resource}

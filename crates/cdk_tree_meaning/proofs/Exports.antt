@@ -14,7 +14,8 @@ use Rattle.cdk_language.specs.Construct.{Body, OutputBody}
 use Rattle.cdk_meaning.specs.AssemblyKept.{name_of}
 use Rattle.cdk_meaning.specs.StackTemplate.{EachMember}
 use Rattle.cdk_template.specs.Own.{spelling_of}
-use Rattle.cdk_template.specs.Template.{Spelling, entry_in, entry_of, export_name, output_entry, section_of}
+use Rattle.cdk_template.specs.Template.{Spelling, entry_in, entry_of, output_entry, section_of}
+use Rattle.cdk_entries.specs.Entries.{export_name}
 use Rattle.cdk_template.proofs.NumberLemmas.{filled_keeps}
 use Rattle.cdk_template.proofs.SectionLemmas.{its_export, own_outputs}
 use Rattle.cdk_tree.specs.Placed.{Placed, construct_at}

@@ -32,7 +32,8 @@ use Rattle.cdk_mentions.proofs.ValueMentions.{values_mention_theirs}
 use Rattle.cdk_plain.specs.Plain.{Fields, IsWell, Plain, object_of}
 use Rattle.cdk_plain.specs.Rendered.{Home, Local, rendered, rendered_fields}
 use Rattle.cdk_template.specs.Own.{spelling_of}
-use Rattle.cdk_template.specs.Template.{entry_in, members_of, output_entry, resource_entry}
+use Rattle.cdk_template.specs.Template.{entry_in, output_entry, resource_entry}
+use Rattle.cdk_entries.specs.Members.{members_of}
 use Rattle.cdk_template.proofs.SectionLemmas.{is_section, its_value, output_condition, outputs_are_elements, own_outputs, own_properties}
 use Rattle.cdk_tree.specs.Expected.{is_resource}
 use Rattle.cdk_tree.specs.Placed.{Placed, construct_at, find_path}

@@ -16,7 +16,7 @@ use Rattle.cdk_rendered.specs.Laws.{BodyFits, ValuesFit}
 use Rattle.cdk_rendered.specs.Room.{room}
 use Rattle.cdk_template.specs.Laws.{HasWholeValue, HasWholeValues, IsObject, IsWholeMapping, IsWholeObject, IsWholeValue}
 use Rattle.cdk_template.specs.Own.{spelling_of}
-use Rattle.cdk_template.specs.Template.{members_of}
+use Rattle.cdk_entries.specs.Members.{members_of}
 use Rattle.cdk_tree.specs.Placed.{Placed, construct_at}
 use Rattle.cdk_tree_meaning.specs.Checked.{AreChecked}
 

@@ -4,6 +4,7 @@ use Rattle.serde_json.specs.Data.{put}
 use Rattle.serde_json.specs.View.{members_view, view}
 use Rattle.cdk_elements.specs.Elements.{logical_of}
 use Rattle.cdk_elements.specs.Kinds.{is_in}
+use Rattle.cdk_entries.specs.Naming as naming
 use Rattle.cdk_template.specs.Entries.{has_kind, with_entry}
 use Rattle.cdk_template.specs.Own.{spelling_of}
 use Rattle.cdk_template.specs.Sources.{constructs_in}
@@ -19,11 +20,11 @@ returns-clause-entries c =
     let stack = c.args.stack in
     let kind = has_kind c.args.section in
     let ms = members_view c.args.entries.now.entries in
-    let new = members_view c.put.new.map.entries in
-    let name = c.logical_name-name.result.now in
+    let new = members_view c.put_named.new.entries.entries in
     let entry = view c.in_ok-entry.entry in
     let inside : is_in stack (construct_at cs n).stack ≡ true = sym c.if-not-is_in.ensures in
     let held : kind (construct_at cs n).body ≡ true = sym (c.if-not-holds.ensures ∙ ap kind c.node.ensures.body) in
-    on_ok_weaker {P = new ≡ put name entry ms} {Q = new ≡ with_entry cs s stack kind n ms} c.put.result
-    (λ puts. puts ∙ ap (λ k. put k entry ms) c.logical_name-name.ensures ∙ ap (λ d. put (logical_of cs n) d ms) c.in_ok-entry.ensures.value ∙ own_entry cs s stack kind n ms inside held)
-    c.put.ensures.ok
+    let same : naming.constructs_in c.named.result ≡ cs = ap naming.constructs_in c.named.ensures in
+    on_ok_weaker {P = new ≡ put (logical_of (naming.constructs_in c.named.result) n) entry ms} {Q = new ≡ with_entry cs s stack kind n ms} c.put_named.result
+    (λ puts. puts ∙ ap (λ ds. put (logical_of ds n) entry ms) same ∙ ap (λ d. put (logical_of cs n) d ms) c.in_ok-entry.ensures.value ∙ own_entry cs s stack kind n ms inside held)
+    c.put_named.ensures

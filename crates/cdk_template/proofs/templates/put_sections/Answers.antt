@@ -2,10 +2,12 @@ use Rattle.std.proofs.Common.{◌≡◌, Option, codes, ap, ◌∙◌}
 use Rattle.std.proofs.lemmas.Result.{on_ok_weaker}
 use Rattle.serde_json.specs.Data.{Data, no_members, object}
 use Rattle.serde_json.specs.View.{members_view}
-use Rattle.cdk_template.specs.Entries.{has_kind, put_given, with_section}
+use Rattle.cdk_template.specs.Entries.{has_kind, with_section}
 use Rattle.cdk_template.specs.Own.{spelling_of}
 use Rattle.cdk_template.specs.Sources.{constructs_in}
-use Rattle.cdk_template.specs.Template.{description_of, non_empty, section_of, template_of, unless_empty}
+use Rattle.cdk_template.specs.Template.{section_of, template_of}
+use Rattle.cdk_entries.specs.Entries.{description_of}
+use Rattle.cdk_entries.specs.Members.{non_empty, put_given, unless_empty}
 use Rattle.cdk_template.specs.declared.section.Section.{Section}
 use Rattle.cdk_template.specs.declared.section.Section.TheVariants.{Conditions, Mappings, Outputs, Parameters, Resources}
 use Rattle.cdk_template.proofs.MemberLemmas.{sections_put}

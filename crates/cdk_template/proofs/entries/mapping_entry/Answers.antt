@@ -1,8 +1,0 @@
-use Rattle.std.proofs.Common.{ap, ◌∙◌}
-use Rattle.serde_json.specs.Data.{object}
-use Rattle.serde_json.proofs.Views.{view-Object}
-use Rattle.cdk_template.proofs.EntryLemmas.{copied_members}
-use Rattle.cdk_template.proofs.entries.mapping_entry.Goals as goal
-
-pub returns : goal.returns
-returns c = view-Object c.in_ok-clone.field-0 ∙ ap object (copied_members c.args.members.now.entries c.in_ok-clone.field-0.entries c.in_ok-clone.ensures.cases)

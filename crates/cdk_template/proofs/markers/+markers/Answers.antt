@@ -1,5 +1,0 @@
-use Rattle.std.proofs.Common.{rules}
-use Rattle.cdk_template.proofs.markers.+markers.Goals as goal
-
-pub member_holds_marker-loop-key-preserved : goal.member_holds_marker-loop-key-preserved
-member_holds_marker-loop-key-preserved t c = search rules

@@ -1,5 +1,0 @@
-use Rattle.std.proofs.Common.{rules}
-use Rattle.cdk_template.proofs.templates.put_description.Goals as goal
-
-pub returns-in-Stack-Some : goal.returns-in-Stack-Some
-returns-in-Stack-Some c = search rules
