@@ -1,4 +1,4 @@
-mod Acyclic
+pub mod Acyclic
 mod Apart
 mod Counting
 mod Onward

@@ -12,7 +12,7 @@ use Rattle.cdk_artifacts.specs.declared.dependents.Dependents.{Dependents}
 use Rattle.cdk_artifacts.specs.declared.queue.Queue.{Queue}
 use Rattle.cdk_artifacts.specs.declared.stacks.Stack.{Stack}
 use Rattle.cdk_artifacts.specs.Found.{stack_view}
-use Rattle.cdk_artifacts.specs.Order.{file_of}
+use Rattle.cdk_artifacts.specs.Files.{file_of}
 use Rattle.cdk_artifacts.specs.Queued.{plus_if, times, occurrences, missing, value_at, numbers_at, waits, is_queued, Pops, Releases, IsQueued, AreDependents}
 use Rattle.cdk_artifacts.proofs.Counting.{value_none, is_same}
 

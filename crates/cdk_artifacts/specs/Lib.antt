@@ -1,4 +1,4 @@
+pub mod Files
 pub mod Found
-pub mod Order
 pub mod Queued
 pub mod Ways

@@ -86,25 +86,25 @@ fn push_dependencies<'m>(
     }
 }
 
-/// Whether the stack reaches itself, where nothing is seen yet and nothing is open.
+/// Whether the stack reaches itself, where nothing is seen yet and nothing waits.
 fn comes_back<'m>(
     index: &Index<'_, 'm>,
     id: &str,
     seen: &mut NameSet<'m>,
-    open: &mut List<&'m str>,
+    waiting: &mut List<&'m str>,
 ) -> Result<bool, AllocError>
     requires unseen { (n : List ℕ) → has_name seen.old n ≡ false }
-    requires none_open { open.old ≡ [] }
+    requires none_waiting { waiting.old ≡ [] }
     ensures { IfOk result (λ found. (ss : List StackArtifact) → IsIndex ss index.now → found ≡ spec_comes_back ss id.now) }
 {
-    if push_dependencies(index, id, id, seen, open)? {
+    if push_dependencies(index, id, id, seen, waiting)? {
         return Ok(true);
     }
     'search: for _ in 0..u64::MAX {
-        let Some(next) = open.pop() else {
+        let Some(next) = waiting.pop() else {
             return Ok(false);
         };
-        if push_dependencies(index, next, id, seen, open)? {
+        if push_dependencies(index, next, id, seen, waiting)? {
             return Ok(true);
         }
     }
@@ -117,8 +117,8 @@ fn reaches_itself(alloc: Global, index: &Index<'_, '_>, id: &str) -> Result<bool
     ensures { IfOk result (λ found. (ss : List StackArtifact) → IsIndex ss index.now → found ≡ spec_comes_back ss id.now) }
 {
     let mut seen = NameSet::new(alloc);
-    let mut open = List::new(alloc);
-    comes_back(index, id, &mut seen, &mut open)
+    let mut waiting = List::new(alloc);
+    comes_back(index, id, &mut seen, &mut waiting)
 }
 
 fn is_cyclic(

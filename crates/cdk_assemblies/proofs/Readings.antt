@@ -9,7 +9,7 @@ use Rattle.std.specs.FinMap.{get, remove, get-remove}
 use Rattle.std.proofs.lemmas.Cmp.{nat_list_cmp_total}
 use Rattle.std.proofs.lemmas.Slice.Eq.{bytes_eq-Decides}
 use Rattle.serde_json.specs.Data.{Data}
-use Rattle.cdk_artifacts.specs.Order.{file_of}
+use Rattle.cdk_artifacts.specs.Files.{file_of}
 use Rattle.cdk_eval.specs.declared.role.Role.{Role}
 use Rattle.cdk_eval.specs.declared.role.Role.TheVariants.{Manifest, Template}
 use Rattle.cdk_eval.specs.Manifest.{StackArtifact, artifacts, nested_directories, stacks_of, cyclic, in_order}

@@ -4,7 +4,7 @@ use Rattle.std.specs.Ordering.{nat_cmp}
 use Rattle.std.specs.Cmp.Lexicographic.{slice_cmp}
 use Rattle.std.specs.FinMap.{FinMap, get, remove}
 use Rattle.serde_json.specs.Data.{Data}
-use Rattle.cdk_artifacts.specs.Order.{file_of}
+use Rattle.cdk_artifacts.specs.Files.{file_of}
 use Rattle.cdk_outside.specs.declared.traits.ReadError.{ReadError}
 use Rattle.cdk_outside.specs.declared.traits.ReadError.TheVariants as read_errors
 use Rattle.cdk_outside.specs.Outside.{Contents, Rose}

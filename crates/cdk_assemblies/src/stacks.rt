@@ -3,14 +3,15 @@ ghost use Rattle.std.specs.Prelude.{◌≡◌, ◌≤◌, [], ◌∷◌, ◌++�
 ghost use Rattle.cdk_eval.specs.declared.assembly.AsmError.TheVariants.{Memory};
 ghost use Rattle.serde_json.specs.View.{view};
 ghost use Rattle.cdk_eval.specs.Views.{stack_view};
-ghost use Rattle.cdk_artifacts.specs.Order.{file_view};
+ghost use Rattle.cdk_artifacts.specs.Files.{file_view};
 ghost use Rattle.cdk_assemblies.specs.Answers.{Reads, FaultNoted, Gives, onto, each_onto, stack_at, order_at};
 
 use crate::document::{copied, path_in, read_document};
-use cdk_artifacts::{Order, StackFile, stacks_in_order};
+use cdk_artifacts::StackFile;
 use cdk_base::{List, Value};
 use cdk_eval::{AsmError, Role, StackIn};
 use cdk_outside::Files;
+use cdk_stack_order::{Order, stacks_in_order};
 use std::alloc::Global;
 
 /// The stacks of the manifest at a path, in evaluation order.

@@ -1,5 +1,5 @@
 // The passes over the values of a tree.
-ghost use Rattle.cdk_sizes.specs.Ordered.{SuitsLazies};
+ghost use Rattle.cdk_value_measures.specs.Ordered.{SuitsLazies};
 ghost use Rattle.cdk_tokens.specs.TableView.{marked_in, tokens_in};
 ghost use Rattle.cdk_tree.specs.TreeView.{constructs};
 ghost use Rattle.cdk_passes.specs.Values.{ChecksValuesAndSizes};

@@ -18,8 +18,9 @@ use Rattle.cdk_rendered.proofs.MarkedPlaces.{value_there}
 use Rattle.cdk_rendered.proofs.OwnForms.{condition_is_own, value_is_own}
 use Rattle.cdk_rendered.proofs.RenderedDepths.{conditions_have_room, rendered_has_room}
 use Rattle.cdk_rendered.specs.Laws.{BodyFits, HasNoCycle, ValuesFit}
-use Rattle.cdk_sizes.specs.Size.{condition_depth, depth}
-use Rattle.cdk_sizes.specs.SizeFindings.{depth_at, greatest_depth, largest_sum, lazy_count, size_at, size_findings_from}
+use Rattle.cdk_value_measures.specs.Size.{condition_depth, depth}
+use Rattle.cdk_value_measures.specs.Constructs.{lazy_count}
+use Rattle.cdk_sizes.specs.SizeFindings.{depth_at, greatest_depth, largest_sum, size_at, size_findings_from}
 use Rattle.cdk_tokens.specs.Token.{Token}
 use Rattle.cdk_tokens.specs.Whole.{MarkedBody, marking, tokens_of, value_at}
 use Rattle.cdk_tree.specs.Expected.{target_at}

@@ -25,7 +25,7 @@ use Rattle.cdk_rendered.proofs.CheckedDepths.{values_fit}
 use Rattle.cdk_rendered.proofs.Renderings.{condition_renderings_are_own, renderings_are_own}
 use Rattle.cdk_rendered.specs.Laws.{HasNoCycle}
 use Rattle.cdk_resolve.specs.Conditions.{IsConditionRendering}
-use Rattle.cdk_sizes.specs.Size.{condition_depth, depth}
+use Rattle.cdk_value_measures.specs.Size.{condition_depth, depth}
 use Rattle.cdk_sizes.specs.SizeFindings.{size_findings}
 use Rattle.cdk_contexts.specs.Contexts.{context_findings}
 use Rattle.cdk_tokens.specs.Whole.{marking, tokens_of, value_at}

@@ -17,7 +17,7 @@ use Rattle.cdk_lazies.specs.Laws as lazies
 use Rattle.cdk_lazies.specs.LazyOrder.{IsLazy}
 use Rattle.cdk_lazies.specs.MentionGraph.{construct_node, mention_graph}
 use Rattle.cdk_rendered.specs.Laws.{HasNoCycle}
-use Rattle.cdk_sizes.specs.SizeFindings.{lazy_count}
+use Rattle.cdk_value_measures.specs.Constructs.{lazy_count}
 use Rattle.cdk_tokens.specs.Token.{Token}
 use Rattle.cdk_tokens.specs.Whole.{MarkedBody, marking, tokens_of}
 use Rattle.cdk_tree.specs.Expected.{is_lazy, target_at}

@@ -20,7 +20,7 @@ use Rattle.cdk_rendered.proofs.LazyNumbers.{lazies-length, lazies_in, lazy_count
 use Rattle.cdk_rendered.proofs.MarkedPlaces.{operands_there, same_operand, value_there}
 use Rattle.cdk_rendered.specs.Laws.{ConditionFormsAreOwn, ConditionsNeedNoMore, HasNoCycle, ValuesNeedNoMore}
 use Rattle.cdk_rendered.specs.Own.{operand_of}
-use Rattle.cdk_sizes.specs.SizeFindings.{lazy_count}
+use Rattle.cdk_value_measures.specs.Constructs.{lazy_count}
 use Rattle.cdk_contexts.specs.Expressions.{operands_of}
 use Rattle.cdk_tokens.specs.Whole.{marking, operand_at, tokens_of, value_at}
 use Rattle.cdk_tree.specs.Placed.{construct_at, Placed}

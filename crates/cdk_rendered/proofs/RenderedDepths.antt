@@ -8,7 +8,7 @@ use Rattle.cdk_plain.specs.Rendered.{attribute_json, Home, Homes, Import, Import
 use Rattle.cdk_rendered.proofs.JoinDepths.{joined-depth, rendered_join-depth}
 use Rattle.cdk_rendered.specs.Laws.{ConditionsFit, ConditionsHaveRoom, RenderedFits, RenderedHasRoom}
 use Rattle.cdk_rendered.specs.Room.{room, spare}
-use Rattle.cdk_sizes.specs.Size.{condition_depth, deepest, deepest_condition, deepest_field, depth, with_array}
+use Rattle.cdk_value_measures.specs.Size.{condition_depth, deepest, deepest_condition, deepest_field, depth, with_array}
 
 -- ---- targets: the deepest is a list that is cut from an import
 

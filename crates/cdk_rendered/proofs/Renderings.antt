@@ -7,7 +7,7 @@ use Rattle.cdk_plain.specs.Rendered.{rendered, rendered_condition}
 use Rattle.cdk_rendered.proofs.LazyNumbers.{lazy_count-low}
 use Rattle.cdk_rendered.proofs.OwnForms.{condition_is_own, value_is_own}
 use Rattle.cdk_rendered.specs.Laws.{ConditionRenderingsAreOwn, RenderingsAreOwn}
-use Rattle.cdk_sizes.specs.SizeFindings.{lazy_count}
+use Rattle.cdk_value_measures.specs.Constructs.{lazy_count}
 use Rattle.cdk_tree.specs.Placed.{Placed}
 
 -- often enough for the order and for the lazies

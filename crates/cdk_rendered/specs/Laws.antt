@@ -17,8 +17,9 @@ use Rattle.cdk_plain.specs.Plain as plain
 use Rattle.cdk_plain.specs.Plain.{Plain}
 use Rattle.cdk_plain.specs.Rendered.{Homes, rendered, rendered_condition}
 use Rattle.cdk_resolve.specs.Conditions.{IsConditionRendering}
-use Rattle.cdk_sizes.specs.Size.{condition_depth, depth}
-use Rattle.cdk_sizes.specs.SizeFindings.{greatest_depth, lazy_count, size_findings}
+use Rattle.cdk_value_measures.specs.Size.{condition_depth, depth}
+use Rattle.cdk_value_measures.specs.Constructs.{lazy_count}
+use Rattle.cdk_sizes.specs.SizeFindings.{greatest_depth, size_findings}
 use Rattle.cdk_tokens.specs.Whole.{marking, tokens_of, value_at}
 use Rattle.cdk_tree.specs.Placed.{Placed, construct_at}
 use Rattle.cdk_rendered.specs.Own.{operand_of}

@@ -1,7 +1,8 @@
 -- The counts of pairs, by the numbers of constructs.
-use Rattle.std.proofs.Common.{◌≡◌, ◌<◌, ℕ, zero, suc, ◌+◌, List, [], ◌∷◌, length, min, Bool, true, false, Some, None, cond, get_or, refl, ap, arith}
+use Rattle.std.proofs.Common.{◌≡◌, ◌<◌, ℕ, zero, suc, ◌+◌, ◌*◌, List, [], ◌∷◌, length, min, Bool, true, false, Some, None, cond, get_or, refl, ap, arith}
 use Rattle.cdk_dependencies.specs.Counts.{most, pair_counts_from, pair_counts_of}
 use Rattle.cdk_dependencies.specs.Pairs.{pairs_of}
+use Rattle.cdk_measure.specs.Wholes.{capped}
 use Rattle.cdk_tree.specs.Placed.{Placed}
 
 counts-length : (cs : List Placed) (n : ℕ) (rest : List Placed) → length (pair_counts_from cs n rest) ≡ length rest
@@ -23,3 +24,10 @@ pair_count cs n h = count_from cs 0 n n cs h (omega arith)
 pub same_number : (b : Bool) (n m : ℕ) → Some m ≡ cond b (Some n) None → m ≡ n
 same_number true n m h = cc
 same_number false n m h = cc
+
+-- what pairs count, where sums stop
+pairs_within : (m a b : ℕ) → min (min a m + 16 * min b m) m ≡ min (a + 16 * b) m
+pairs_within m a b = omega arith
+
+pub capped_pairs : (a b : ℕ) → capped (capped a + 16 * capped b) ≡ capped (a + 16 * b)
+capped_pairs a b = pairs_within most a b

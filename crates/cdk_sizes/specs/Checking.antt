@@ -2,9 +2,9 @@
 use Rattle.std.specs.Prelude.{◌≡◌, ℕ, ◌+◌, List, ◌++◌, nat_lt}
 use Rattle.cdk_base.specs.declared.code.Code.{Code}
 use Rattle.cdk_base.specs.declared.code.Code.TheVariants.{TooDeep, TooLarge}
-use Rattle.cdk_sizes.specs.Measures.{capped}
+use Rattle.cdk_measure.specs.Wholes.{capped}
 use Rattle.cdk_sizes.specs.SizeFindings.{greatest_depth, largest_sum}
-use Rattle.cdk_sizes.specs.declared.measure.Measure.{Measure}
+use Rattle.cdk_measure.specs.declared.measure.Measure.{Measure}
 use Rattle.cdk_tree.specs.PlaceFindings.{when}
 
 -- of what has the size and the depth, as they fit 64 bits

@@ -1,5 +1,5 @@
 -- Values that are too large or too deep once all tokens and lazies are expanded (own limits).
-use Rattle.std.specs.Prelude.{ℕ, ◌+◌, ◌*◌, ◌&&◌, List, [], ◌∷◌, ◌++◌, map, filter, length, nat_lt, nat_le}
+use Rattle.std.specs.Prelude.{ℕ, ◌+◌, ◌*◌, ◌&&◌, List, [], ◌∷◌, ◌++◌, map, nat_lt, nat_le}
 use Rattle.std.specs.Option.{option_map_or}
 use Rattle.cdk_base.specs.declared.code.Code.{Code}
 use Rattle.cdk_base.specs.declared.code.Code.TheVariants.{TooDeep, TooLarge}
@@ -9,10 +9,11 @@ use Rattle.cdk_language.specs.Construct as construct
 use Rattle.cdk_language.specs.Construct.{Body}
 use Rattle.cdk_plain.specs.Plain.{Plain}
 use Rattle.cdk_dependencies.specs.Pairs.{pairs_of}
-use Rattle.cdk_sizes.specs.Size.{condition_depth, condition_size, depth, size}
+use Rattle.cdk_value_measures.specs.Constructs.{lazy_count, path_in}
+use Rattle.cdk_value_measures.specs.Size.{condition_depth, condition_size, depth, size}
 use Rattle.cdk_tokens.specs.Token.{Token}
 use Rattle.cdk_tokens.specs.Whole.{MarkedBody, value_at}
-use Rattle.cdk_tree.specs.Expected.{is_lazy, target_at}
+use Rattle.cdk_tree.specs.Expected.{target_at}
 use Rattle.cdk_tree.specs.PlaceFindings.{when}
 use Rattle.cdk_tree.specs.Placed.{Placed, construct_at}
 use Rattle.cdk_tree.specs.declared.role.Found.{Found}
@@ -23,13 +24,6 @@ largest_sum = 16000000
 
 abbrev pub greatest_depth : ℕ
 greatest_depth = 32
-
--- lazies are opened at most as often, one inside another, as there are lazies
-abbrev pub lazy_count : List Placed → ℕ
-lazy_count cs = length (filter (λ c. is_lazy c.body) cs)
-
-abbrev pub path_in : List Placed → ℕ → List ℕ
-path_in cs n = (construct_at cs n).path
 
 module _ (cs : List Placed) (ts : List Token) (ms : List MarkedBody) where
   -- of the marked value of a construct, where it has one

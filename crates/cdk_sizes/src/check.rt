@@ -1,47 +1,32 @@
 // The check of the sizes and depths of an application's values.
-ghost use Rattle.std.specs.Prelude.{◌≡◌, ◌<◌, ◌+◌, ◌*◌, length, min, IfOk};
+ghost use Rattle.std.specs.Prelude.{◌≡◌, ◌<◌, length, min, IfOk};
 ghost use Rattle.cdk_dependencies.specs.Counts.{most, pair_counts_of};
 ghost use Rattle.cdk_dependencies.specs.Pairs.{pairs_of};
 ghost use Rattle.cdk_sizes.specs.Checking.{IsMeasureOf, codes_of};
-ghost use Rattle.cdk_sizes.specs.Keeping.{Serves};
-ghost use Rattle.cdk_sizes.specs.Measures.{capped};
-ghost use Rattle.cdk_sizes.specs.Ordered.{SuitsLazies};
-ghost use Rattle.cdk_sizes.specs.Size.{depth as plain_depth, size as plain_size};
-ghost use Rattle.cdk_sizes.specs.SizeFindings.{depth_at, of_value, path_in, size_at, size_findings};
+ghost use Rattle.cdk_value_measures.specs.Keeping.{Serves};
+ghost use Rattle.cdk_value_measures.specs.Ordered.{SuitsLazies};
+ghost use Rattle.cdk_value_measures.specs.Size.{depth as plain_depth, size as plain_size};
+ghost use Rattle.cdk_value_measures.specs.Constructs.{path_in};
+ghost use Rattle.cdk_sizes.specs.SizeFindings.{depth_at, of_value, size_at, size_findings};
 ghost use Rattle.cdk_sizes.specs.Views.{ChecksFirst};
 ghost use Rattle.cdk_tokens.specs.TableView.{marked_in, tokens_in};
 ghost use Rattle.cdk_tree.specs.PlaceFindings.{first};
 ghost use Rattle.cdk_tree.specs.Placed.{construct_at};
 ghost use Rattle.cdk_tree.specs.TreeView.{constructs};
 
-use crate::conditions::condition_measure;
-use crate::lazies::lazy_measures;
-use crate::measure::Measure;
-use crate::values::value_measure;
 use cdk_base::{Code, List};
 use cdk_dependencies::pair_counts;
 use cdk_language::Kind;
+use cdk_measure::Measure;
 use cdk_tokens::{Marked, Table};
 use cdk_tree::{Found, NodeId, PassError, Tree};
+use cdk_value_measures::{condition_measure, lazy_measures, value_measure};
 use std::alloc::{AllocError, Global};
 
 // The greatest sum of sizes, and the greatest depth of a value.
 const LARGEST_SUM: u64 = 16_000_000;
 
 const GREATEST_DEPTH: u64 = 32;
-
-// What each pair of dependencies counts.
-const PAIR_SIZE: u64 = 16;
-
-fn with_pairs(measure: Measure, pairs: u64) -> Measure
-    ensures { result ≡ record { size = capped (measure.size + 16 * pairs); depth = measure.depth; is_list = measure.is_list } }
-{
-    Measure {
-        size: measure.size.saturating_add(pairs.saturating_mul(PAIR_SIZE)),
-        depth: measure.depth,
-        is_list: measure.is_list,
-    }
-}
 
 /// The measure of a construct's marked value, where it has one.
 fn shown_measure(
@@ -75,7 +60,7 @@ fn construct_measure(
     ensures { IfOk result (λ m. IsMeasureOf m (size_at (constructs tree.now) (tokens_in table.now) (marked_in marked.now) at (construct_at (constructs tree.now) at).body) (depth_at (constructs tree.now) (tokens_in table.now) (marked_in marked.now) at (construct_at (constructs tree.now) at).body)) }
 {
     match &tree.node(at).kind {
-        Kind::Resource(_) => Ok(with_pairs(shown_measure(tree, table, marked, kept, at), pairs)),
+        Kind::Resource(_) => Ok(shown_measure(tree, table, marked, kept, at).with_pairs(pairs)),
         Kind::Output(_) => Ok(shown_measure(tree, table, marked, kept, at)),
         Kind::Condition(condition) => {
             condition_measure(tree, table, marked, kept, at, condition)

@@ -2,9 +2,5 @@
 #![tactic(auto)]
 
 mod check;
-mod conditions;
-mod lazies;
-mod measure;
-mod values;
 
 pub use check::check_sizes;

@@ -15,7 +15,7 @@ use Rattle.cdk_language.specs.Construct.{Application, child, Construct, construc
 use Rattle.cdk_language.specs.Expression as expression
 use Rattle.cdk_lazies.specs.LazyOrder.{IsHeld, IsLazy, IsLazyOrder}
 use Rattle.cdk_leaves.specs.Ready.{IsReady}
-use Rattle.cdk_sizes.specs.Ordered.{SuitsLazies}
+use Rattle.cdk_value_measures.specs.Ordered.{SuitsLazies}
 use Rattle.cdk_suited.proofs.SuitedOrders.{lazy_orders_are_ready, lazy_orders_suit}
 use Rattle.cdk_contexts.specs.Contexts.{context_findings}
 use Rattle.cdk_tokens.specs.Token as token

@@ -3,7 +3,7 @@ use Rattle.std.specs.Prelude.{ℕ, List}
 use Rattle.cdk_expansion.specs.Laws.{IsSound}
 use Rattle.cdk_lazies.specs.LazyOrder.{IsLazyOrder}
 use Rattle.cdk_leaves.specs.Ready.{IsReady}
-use Rattle.cdk_sizes.specs.Ordered.{SuitsLazies}
+use Rattle.cdk_value_measures.specs.Ordered.{SuitsLazies}
 use Rattle.cdk_tokens.specs.Whole.{marking, tokens_of}
 use Rattle.cdk_tree.specs.Placed.{Placed}
 

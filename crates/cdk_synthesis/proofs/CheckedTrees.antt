@@ -4,7 +4,7 @@ use Rattle.cdk_expansion.specs.Laws.{IsSound}
 use Rattle.cdk_lazies.specs.CycleFindings.{cycle_findings}
 use Rattle.cdk_lazies.specs.LazyOrder.{IsLazyOrder}
 use Rattle.cdk_leaves.specs.Ready.{IsReady}
-use Rattle.cdk_sizes.specs.Ordered.{SuitsLazies}
+use Rattle.cdk_value_measures.specs.Ordered.{SuitsLazies}
 use Rattle.cdk_sizes.specs.SizeFindings.{size_findings}
 use Rattle.cdk_stacks.specs.Claims.{name_findings}
 use Rattle.cdk_suited.proofs.SuitedOrders.{lazy_orders_are_ready, lazy_orders_suit}

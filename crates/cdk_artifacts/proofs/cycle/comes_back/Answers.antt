@@ -24,7 +24,7 @@ search-init c =
     let s = has_name c.args.seen.now in
     let t = has_name c.push_dependencies.new.seen in
     let p = texts_of c.push_dependencies.new.open_ids in
-    begins leads id s t p c.requires.unseen (subst (λ (o : List (List ℕ)). Grows (leads id) s t o p) (ap texts_of c.requires.none_open) pushed.0) pushed.1
+    begins leads id s t p c.requires.unseen (subst (λ (o : List (List ℕ)). Grows (leads id) s t o p) (ap texts_of c.requires.none_waiting) pushed.0) pushed.1
 
 pub returns-in_default : goal.returns-in_default
 returns-in_default c ss h =
@@ -41,8 +41,8 @@ returns-then-branch-2 c ss h =
     let next = c.in-Some.next.now in
     let same : leads ≡ dependencies_of ss = fun_ext h in
     let found = rw c.if-branch-2.true at c.in_ok-push_dependencies-2.ensures in
-    let popped = texts_push c.pop.new.self c.search.open c.in-Some.next c.in-Some.ensures in
-    let way = finds leads id (has_name c.search.seen) (texts_of c.pop.new.self) (texts_of c.search.open) next c.search.invariant popped found in
+    let popped = texts_push c.pop.new.self c.search.waiting c.in-Some.next c.in-Some.ensures in
+    let way = finds leads id (has_name c.search.seen) (texts_of c.pop.new.self) (texts_of c.search.waiting) next c.search.invariant popped found in
     sym (cycles_found ss way.0 id (ap (λ f. comes_to f way.0 id id) (sym same) ∙ way.1))
 
 pub search-preserved : goal.search-preserved
@@ -55,5 +55,5 @@ search-preserved c =
     let t = has_name c.push_dependencies-in-search.new.seen in
     let o = texts_of c.pop.new.self in
     let p = texts_of c.push_dependencies-in-search.new.open_ids in
-    let popped = texts_push c.pop.new.self c.search.open c.in-Some.next c.in-Some.ensures in
-    steps leads id s t o p (texts_of c.search.open) next c.search.invariant popped pushed.0 pushed.1
+    let popped = texts_push c.pop.new.self c.search.waiting c.in-Some.next c.in-Some.ensures in
+    steps leads id s t o p (texts_of c.search.waiting) next c.search.invariant popped pushed.0 pushed.1

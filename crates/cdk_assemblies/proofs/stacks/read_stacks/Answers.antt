@@ -1,6 +1,6 @@
 use Rattle.std.proofs.Common.{map, [], ◌∙◌, arith, rules}
-use Rattle.cdk_artifacts.specs.declared.order.StackFile.{StackFile}
-use Rattle.cdk_artifacts.specs.Order.{file_view}
+use Rattle.cdk_artifacts.specs.declared.placed.StackFile.{StackFile}
+use Rattle.cdk_artifacts.specs.Files.{file_view}
 use Rattle.cdk_eval.specs.Views.{stack_view}
 use Rattle.cdk_assemblies.specs.Answers.{stack_at}
 use Rattle.cdk_assemblies.proofs.Readings.{stack_stable}

@@ -1,5 +1,5 @@
 use Rattle.std.proofs.Common.{◌≡◌, ◌≤◌, map, take, Ok, IfSome}
-use Rattle.cdk_artifacts.specs.Order.{file_view}
+use Rattle.cdk_artifacts.specs.Files.{file_view}
 use Rattle.cdk_eval.specs.Views.{stack_view}
 use Rattle.cdk_assemblies.specs.Answers.{each_onto, stack_at}
 use Rattle.cdk_assemblies.proofs.stacks.read_stacks.Given as goal
