@@ -8,7 +8,7 @@ use Rattle.cdk_lazies.specs.LazyOrder.{IsLazyOrder}
 use Rattle.cdk_leaves.specs.Ready.{IsReady}
 use Rattle.cdk_pass_cases.specs.Marked.{AreMarked}
 use Rattle.cdk_value_measures.specs.Ordered.{SuitsLazies}
-use Rattle.cdk_suited.proofs.SuitedOrders.{lazy_orders_are_ready, lazy_orders_suit}
+use Rattle.cdk_premises.proofs.SuitedOrders.{lazy_orders_are_ready, lazy_orders_suit}
 use Rattle.cdk_tokens.specs.Marks.{Marks}
 use Rattle.cdk_tokens.specs.TableView.{marked_in, tokens_in}
 use Rattle.cdk_tokens.specs.Token.{Token}

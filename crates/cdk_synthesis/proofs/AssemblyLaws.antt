@@ -10,7 +10,7 @@ use Rattle.cdk_elements.specs.OneStack.{AreOneStack}
 use Rattle.cdk_language.specs.Construct.{Application}
 use Rattle.cdk_manifest.proofs.ArtifactLemmas.{template_file_long}
 use Rattle.cdk_meaning.specs.Names.{AreDistinct, Each, IsIn}
-use Rattle.cdk_mentions.proofs.Lists.{each_picked}
+use Rattle.cdk_premises.proofs.Lists.{each_picked}
 use Rattle.cdk_stacks.specs.Claims.{name_findings}
 use Rattle.cdk_template.proofs.WholeTemplates.{templates_are_unmarked}
 use Rattle.cdk_template.specs.Markers.{marker_findings}

@@ -6,23 +6,23 @@ use Rattle.cdk_base.specs.declared.Setting.{Setting}
 use Rattle.cdk_base.specs.declared.code.Code.TheVariants.{Shape}
 use Rattle.cdk_base.specs.declared.fault.Fault.{Fault}
 use Rattle.cdk_carried.specs.Carried.{is_carried}
-use Rattle.cdk_clean.proofs.CleanTrees.{trees_stay_clean}
+use Rattle.cdk_premises.proofs.CleanTrees.{trees_stay_clean}
 use Rattle.cdk_doc.specs.Answers.{IsReadAs}
 use Rattle.cdk_elements.specs.OneStack.{AreOneStack}
 use Rattle.cdk_expansion.specs.Clean.{TreeIsClean}
-use Rattle.cdk_formed.proofs.FormedTrees.{trees_stay_formed}
-use Rattle.cdk_formed.specs.Formed.{TreeIsFormed}
+use Rattle.cdk_premises.proofs.FormedTrees.{trees_stay_formed}
+use Rattle.cdk_premises.specs.Formed.{TreeIsFormed}
 use Rattle.cdk_language.specs.Application.{application_of, with_settings}
 use Rattle.cdk_language.specs.Construct.{Application}
 use Rattle.cdk_language.specs.Findings.{setting_findings}
 use Rattle.cdk_language.specs.declared.finding.Finding.{Finding}
-use Rattle.cdk_mentions.proofs.PlainApplications.{applications_are_rooted, operands_are_read_plain}
-use Rattle.cdk_mentions.specs.OneTree.{IsRooted}
-use Rattle.cdk_mentions.specs.Operands.{OperandsArePlain}
+use Rattle.cdk_premises.proofs.PlainApplications.{applications_are_rooted, operands_are_read_plain}
+use Rattle.cdk_premises.specs.OneTree.{IsRooted}
+use Rattle.cdk_premises.specs.Operands.{OperandsArePlain}
 use Rattle.cdk_passes.specs.Faults.{IsFaultOf, first_of, here}
 use Rattle.cdk_tree.specs.PlaceFindings.{first, place_findings}
 use Rattle.cdk_tree.specs.Placed.{Placed, constructs_of}
-use Rattle.cdk_written.proofs.Walked.{carried_constructs_are_one_stack}
+use Rattle.cdk_premises.proofs.Walked.{carried_constructs_are_one_stack}
 use Rattle.cdk_synthesis.specs.Assembly.{application_in, assembly_of, files_in, placed_in, tree_of}
 use Rattle.cdk_synthesis.specs.Checks.{Answers, AreCounted, IsBuilt, Synthesises}
 use Rattle.cdk_synthesis.specs.Passes.{first_fault, laid, passes, tree_passes}

@@ -7,7 +7,7 @@ use Rattle.cdk_leaves.specs.Ready.{IsReady}
 use Rattle.cdk_value_measures.specs.Ordered.{SuitsLazies}
 use Rattle.cdk_sizes.specs.SizeFindings.{size_findings}
 use Rattle.cdk_stacks.specs.Claims.{name_findings}
-use Rattle.cdk_suited.proofs.SuitedOrders.{lazy_orders_are_ready, lazy_orders_suit}
+use Rattle.cdk_premises.proofs.SuitedOrders.{lazy_orders_are_ready, lazy_orders_suit}
 use Rattle.cdk_contexts.specs.Contexts.{context_findings}
 use Rattle.cdk_tokens.specs.Token.{Token}
 use Rattle.cdk_tokens.specs.Whole.{MarkedBody, marking, tokens_of}

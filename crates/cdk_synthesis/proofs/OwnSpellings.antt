@@ -14,8 +14,8 @@ use Rattle.cdk_leaves.specs.Ready.{Scope, scope_of}
 use Rattle.cdk_local_homes.proofs.LocalRenders.{local_homes_render, local_homes_render_conditions}
 use Rattle.cdk_local_homes.specs.Local.{AreLocal}
 use Rattle.cdk_plain.specs.Rendered.{rendered, rendered_condition}
-use Rattle.cdk_rendered.proofs.OwnForms.{condition_forms_are_own}
-use Rattle.cdk_rendered.specs.Laws.{ConditionRenderingsAreOwn, IsScopeOf, RenderingsAreOwn}
+use Rattle.cdk_premises.proofs.OwnForms.{condition_forms_are_own}
+use Rattle.cdk_premises.specs.RenderedLaws.{ConditionRenderingsAreOwn, IsScopeOf, RenderingsAreOwn}
 use Rattle.cdk_resolve.specs.Conditions.{IsBodyRendering}
 use Rattle.cdk_spelling.specs.Spelled.{homes_for}
 use Rattle.cdk_template.specs.Sources.{SpellsOwn}

@@ -3,7 +3,7 @@ use Rattle.std.proofs.Common.{◌≡◌, ◌<◌, ◌≤◌, ℕ, List, [], ◌�
 use Rattle.cdk_elements.specs.Kinds.{stacks_of}
 use Rattle.cdk_elements.specs.OneStack.{AreOneStack}
 use Rattle.cdk_meaning.specs.Names.{IsIn}
-use Rattle.cdk_mentions.proofs.Lists.{is_picked}
+use Rattle.cdk_premises.proofs.Lists.{is_picked}
 use Rattle.cdk_tree.specs.Placed.{Placed, construct_at, is_stack}
 use Rattle.cdk_synthesis.specs.Stacks.{first_in, first_stack}
 

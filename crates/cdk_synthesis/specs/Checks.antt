@@ -6,12 +6,12 @@ use Rattle.cdk_carried.specs.Carried.{is_carried}
 use Rattle.cdk_elements.specs.OneStack.{AreOneStack}
 use Rattle.cdk_expansion.specs.Clean.{TreeIsClean}
 use Rattle.cdk_expansion.specs.Laws.{IsSound}
-use Rattle.cdk_formed.specs.Formed.{TreeIsFormed}
+use Rattle.cdk_premises.specs.Formed.{TreeIsFormed}
 use Rattle.cdk_language.specs.Construct.{Application}
 use Rattle.cdk_language.specs.declared.finding.Finding.{Finding}
 use Rattle.cdk_lazies.specs.CycleFindings.{cycle_findings}
-use Rattle.cdk_mentions.specs.OneTree.{IsRooted}
-use Rattle.cdk_mentions.specs.Operands.{OperandsArePlain}
+use Rattle.cdk_premises.specs.OneTree.{IsRooted}
+use Rattle.cdk_premises.specs.Operands.{OperandsArePlain}
 use Rattle.cdk_passes.specs.Faults.{IsFaultOf, first_of}
 use Rattle.cdk_tokens.specs.Token.{Token}
 use Rattle.cdk_tokens.specs.Whole.{MarkedBody, marking, tokens_of}

@@ -18,7 +18,7 @@ use cdk_language::App;
 use cdk_lazies::lazy_order;
 use cdk_local_homes::local_homes;
 use cdk_passes::{check_values_and_sizes, fault_at, fault_at_root, pass_fault};
-use cdk_rendered::{condition_renderings_are_own, renderings_are_own, values_fit};
+use cdk_premises::{condition_renderings_are_own, renderings_are_own, values_fit};
 use cdk_stacks::{Names, names};
 use cdk_targets::check_targets;
 use cdk_template::{Sources, check_counts};

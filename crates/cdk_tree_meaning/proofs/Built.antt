@@ -3,7 +3,7 @@ use Rattle.std.proofs.Common.{◌≡◌, ◌<◌, ℕ, List, ◌++◌, length, B
 use Rattle.serde_json.specs.Data.{Data, Members}
 use Rattle.cdk_elements.specs.Elements.{constructs_in, element_of, logical_of, name_of, own_homes, parts_of}
 use Rattle.cdk_elements.specs.Kinds.{of_kind, stacks_of}
-use Rattle.cdk_formed.proofs.FitConditions.{conditions_are_well}
+use Rattle.cdk_premises.proofs.FitConditions.{conditions_are_well}
 use Rattle.cdk_language.specs.Construct as language
 use Rattle.cdk_language.specs.Construct.{Body}
 use Rattle.cdk_meaning.specs.Constructs.{condition_at, condition_in}
@@ -11,13 +11,13 @@ use Rattle.cdk_meaning.specs.Names.{Each, IsIn}
 use Rattle.cdk_meaning.specs.Sections.{IsSection}
 use Rattle.cdk_meaning.specs.StackTemplate.{IsMappingEntry, IsParameterEntry, IsResourceEntry, IsTemplateOf, Parts, has_colon}
 use Rattle.cdk_meaning.proofs.NameLists.{each_at}
-use Rattle.cdk_mentions.specs.Laws.{ConditionsAreFree}
-use Rattle.cdk_mentions.specs.OneTree.{IsOneTree}
-use Rattle.cdk_mentions.proofs.ConditionNames.{conditions_are_closed}
-use Rattle.cdk_mentions.proofs.ElementStacks.{elements_stand_in_the_stack}
-use Rattle.cdk_mentions.proofs.GuardTargets.{guards_are_conditions}
-use Rattle.cdk_mentions.proofs.Lists.{each_append}
-use Rattle.cdk_mentions.proofs.OperandMentions.{operands_mention_theirs}
+use Rattle.cdk_premises.specs.MentionsLaws.{ConditionsAreFree}
+use Rattle.cdk_premises.specs.OneTree.{IsOneTree}
+use Rattle.cdk_premises.proofs.ConditionNames.{conditions_are_closed}
+use Rattle.cdk_premises.proofs.ElementStacks.{elements_stand_in_the_stack}
+use Rattle.cdk_premises.proofs.GuardTargets.{guards_are_conditions}
+use Rattle.cdk_premises.proofs.Lists.{each_append}
+use Rattle.cdk_premises.proofs.OperandMentions.{operands_mention_theirs}
 use Rattle.cdk_plain.specs.Plain.{IsWellCondition}
 use Rattle.cdk_plain.specs.Rendered.{rendered_condition}
 use Rattle.cdk_stacks.specs.Names.{logical_name}

@@ -3,14 +3,14 @@ use Rattle.std.proofs.Common.{◌≡◌, ℕ, List, true, Option, Some, None, re
 use Rattle.std.specs.Prelude.{is_some, option_and_then, option_map, unwrap_or}
 use Rattle.serde_json.specs.Data.{string}
 use Rattle.cdk_elements.specs.Elements.{constructs_in, element_of, form_of, logical_of, own_homes, parts_of}
-use Rattle.cdk_formed.specs.Formed.{IsFormedBody}
+use Rattle.cdk_premises.specs.Formed.{IsFormedBody}
 use Rattle.cdk_language.specs.Construct as language
 use Rattle.cdk_language.specs.Construct.{Body}
 use Rattle.cdk_language.specs.declared.construct.ParameterForm.{ParameterForm}
 use Rattle.cdk_language.specs.declared.construct.ParameterForm.TheVariants as forms
 use Rattle.cdk_meaning.specs.Constructs.{condition_in}
 use Rattle.cdk_meaning.specs.StackTemplate.{IsMappingEntry, IsParameterEntry, IsResourceEntry, form_text}
-use Rattle.cdk_mentions.specs.Laws.{IsGuarded, guard_of}
+use Rattle.cdk_premises.specs.MentionsLaws.{IsGuarded, guard_of}
 use Rattle.cdk_plain.specs.Rendered.{rendered_condition}
 use Rattle.cdk_template.specs.Own.{spelling_of}
 use Rattle.cdk_template.specs.Template.{entry_in}

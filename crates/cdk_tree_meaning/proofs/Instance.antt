@@ -6,14 +6,14 @@ use Rattle.std.specs.Str.{is_utf8, chars}
 use Rattle.serde_json.proofs.OnLiterals.{serde_json_on_literals}
 use Rattle.serde_json.specs.Data.{Data, string, array, object, Items, no_items, item, Members, no_members, member}
 use Rattle.cdk_base.specs.Json.{parsed}
-use Rattle.cdk_clean.proofs.CleanTrees.{trees_are_clean}
+use Rattle.cdk_premises.proofs.CleanTrees.{trees_are_clean}
 use Rattle.cdk_elements.specs.Elements.{own_value}
 use Rattle.cdk_elements.specs.Kinds.{stacks_of}
 use Rattle.cdk_elements.specs.OneStack.{AreOneStack}
 use Rattle.cdk_eval.specs.Assembly.{assembly_outcome}
 use Rattle.cdk_eval.specs.Values.{Values, no_values}
 use Rattle.cdk_expansion.specs.Laws.{IsSound}
-use Rattle.cdk_formed.proofs.FormedTrees.{trees_are_formed}
+use Rattle.cdk_premises.proofs.FormedTrees.{trees_are_formed}
 use Rattle.cdk_language.specs.Application.{application_of}
 use Rattle.cdk_language.specs.Condition as condition
 use Rattle.cdk_language.specs.Construct as language
@@ -26,8 +26,8 @@ use Rattle.cdk_lazies.specs.CycleFindings.{cycle_findings}
 use Rattle.cdk_meaning.specs.Meaning.{meaning}
 use Rattle.cdk_meaning.specs.ReportKept.{IsOutputTold, IsResourceTold, MeansText}
 use Rattle.cdk_meaning.specs.Source.{Meaning, Means}
-use Rattle.cdk_mentions.specs.Laws.{ConditionsAreFree}
-use Rattle.cdk_mentions.proofs.PlainApplications.{applications_are_rooted, operands_are_read_plain}
+use Rattle.cdk_premises.specs.MentionsLaws.{ConditionsAreFree}
+use Rattle.cdk_premises.proofs.PlainApplications.{applications_are_rooted, operands_are_read_plain}
 use Rattle.cdk_plain.specs.Plain.{no_fields}
 use Rattle.cdk_sizes.specs.SizeFindings.{size_findings}
 use Rattle.cdk_stacks.specs.Claims.{name_findings}

@@ -7,8 +7,8 @@ use Rattle.cdk_eval.specs.Reading.{document_at, path_in}
 use Rattle.cdk_manifest.proofs.ToldStacks.{manifests_tell_stacks}
 use Rattle.cdk_manifest.proofs.WholeManifest.{manifests_are_whole}
 use Rattle.cdk_meaning.proofs.NameLists.{each_at, each_more}
-use Rattle.cdk_mentions.specs.Laws.{ConditionsAreFree}
-use Rattle.cdk_rendered.specs.Laws.{ValuesFit}
+use Rattle.cdk_premises.specs.MentionsLaws.{ConditionsAreFree}
+use Rattle.cdk_premises.specs.RenderedLaws.{ValuesFit}
 use Rattle.cdk_template.specs.Own.{spelling_of}
 use Rattle.cdk_template.specs.Template.{template_of}
 use Rattle.cdk_template.proofs.WholeTemplates.{templates_are_whole}

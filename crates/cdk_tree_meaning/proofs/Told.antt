@@ -13,7 +13,7 @@ use Rattle.cdk_eval.specs.Stack.{Stack, StackOutcome, output_outcomes, stack_out
 use Rattle.cdk_eval.specs.Template.{Scope}
 use Rattle.cdk_eval.specs.Values.{Values}
 use Rattle.cdk_expansion.specs.Own.{value_in}
-use Rattle.cdk_formed.proofs.FitForms.{forms_are_well, properties_are_objects}
+use Rattle.cdk_premises.proofs.FitForms.{forms_are_well, properties_are_objects}
 use Rattle.cdk_language.specs.Construct as language
 use Rattle.cdk_language.specs.Construct.{Body, OutputBody, ResourceBody}
 use Rattle.cdk_language.specs.Expression.{Expression}
@@ -26,9 +26,9 @@ use Rattle.cdk_meaning.specs.Sections.{IsSection}
 use Rattle.cdk_meaning.specs.StackTemplate.{IsTemplateOf}
 use Rattle.cdk_meaning.proofs.NameLists.{each_more}
 use Rattle.cdk_meaning.proofs.Report.{outputs_keep_meaning, resources_keep_meaning}
-use Rattle.cdk_mentions.specs.Laws.{ConditionsAreFree, IsGuarded, guard_of}
-use Rattle.cdk_mentions.proofs.GuardTargets.{guards_are_conditions}
-use Rattle.cdk_mentions.proofs.ValueMentions.{values_mention_theirs}
+use Rattle.cdk_premises.specs.MentionsLaws.{ConditionsAreFree, IsGuarded, guard_of}
+use Rattle.cdk_premises.proofs.GuardTargets.{guards_are_conditions}
+use Rattle.cdk_premises.proofs.ValueMentions.{values_mention_theirs}
 use Rattle.cdk_plain.specs.Plain.{Fields, IsWell, Plain, object_of}
 use Rattle.cdk_plain.specs.Rendered.{Home, Local, rendered, rendered_fields}
 use Rattle.cdk_template.specs.Own.{spelling_of}

@@ -4,8 +4,8 @@ use Rattle.std.specs.Prelude.{◌&&◌}
 use Rattle.cdk_elements.specs.Kinds.{is_in, of_kind, stacks_of}
 use Rattle.cdk_language.specs.Construct.{Body}
 use Rattle.cdk_meaning.specs.Names.{Each, IsIn}
-use Rattle.cdk_mentions.specs.OneTree.{IsOneTree}
-use Rattle.cdk_mentions.proofs.Lists.{each_picked}
+use Rattle.cdk_premises.specs.OneTree.{IsOneTree}
+use Rattle.cdk_premises.proofs.Lists.{each_picked}
 use Rattle.cdk_tree.specs.Placed.{Placed, construct_at, is_stack}
 use Rattle.cdk_tree.proofs.Tests.{and_right}
 use Rattle.cdk_tree_meaning.specs.Checked.{AreChecked}

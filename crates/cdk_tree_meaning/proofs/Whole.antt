@@ -3,17 +3,17 @@ use Rattle.std.proofs.Common.{◌≡◌, ◌<◌, ◌≤◌, ℕ, List, length, 
 use Rattle.serde_json.specs.Data.{Data, null, boolean, number, string, array, object, Members, no_members, member, depth}
 use Rattle.cdk_elements.specs.Elements.{own_condition, own_homes, own_value}
 use Rattle.cdk_expansion.specs.Own.{value_in}
-use Rattle.cdk_formed.proofs.FitConditions.{conditions_are_canonical, conditions_have_one_member}
-use Rattle.cdk_formed.proofs.FitForms.{forms_are_canonical, properties_are_objects}
-use Rattle.cdk_formed.proofs.FitMappings.{mappings_are_well}
+use Rattle.cdk_premises.proofs.FitConditions.{conditions_are_canonical, conditions_have_one_member}
+use Rattle.cdk_premises.proofs.FitForms.{forms_are_canonical, properties_are_objects}
+use Rattle.cdk_premises.proofs.FitMappings.{mappings_are_well}
 use Rattle.cdk_language.specs.Condition.{Condition}
 use Rattle.cdk_language.specs.Construct as language
 use Rattle.cdk_language.specs.Construct.{Body, OutputBody, ResourceBody}
 use Rattle.cdk_meaning.specs.StackTemplate.{EachMember, IsRow}
 use Rattle.cdk_plain.specs.Plain.{Plain, list_of, object_of}
 use Rattle.cdk_plain.specs.Rendered.{Homes, rendered, rendered_condition}
-use Rattle.cdk_rendered.specs.Laws.{BodyFits, ValuesFit}
-use Rattle.cdk_rendered.specs.Room.{room}
+use Rattle.cdk_premises.specs.RenderedLaws.{BodyFits, ValuesFit}
+use Rattle.cdk_premises.specs.Room.{room}
 use Rattle.cdk_template.specs.Laws.{HasWholeValue, HasWholeValues, IsObject, IsWholeMapping, IsWholeObject, IsWholeValue}
 use Rattle.cdk_template.specs.Own.{spelling_of}
 use Rattle.cdk_entries.specs.Members.{members_of}

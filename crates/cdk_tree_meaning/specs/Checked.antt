@@ -2,11 +2,11 @@
 use Rattle.std.specs.Prelude.{◌≡◌, List, []}
 use Rattle.cdk_elements.specs.OneStack.{AreOneStack}
 use Rattle.cdk_expansion.specs.Laws.{IsSound}
-use Rattle.cdk_formed.specs.Formed.{TreeIsFormed}
+use Rattle.cdk_premises.specs.Formed.{TreeIsFormed}
 use Rattle.cdk_language.specs.Construct.{Application}
 use Rattle.cdk_lazies.specs.CycleFindings.{cycle_findings}
-use Rattle.cdk_mentions.specs.OneTree.{IsRooted}
-use Rattle.cdk_mentions.specs.Operands.{OperandsArePlain}
+use Rattle.cdk_premises.specs.OneTree.{IsRooted}
+use Rattle.cdk_premises.specs.Operands.{OperandsArePlain}
 use Rattle.cdk_sizes.specs.SizeFindings.{size_findings}
 use Rattle.cdk_stacks.specs.Claims.{name_findings}
 use Rattle.cdk_tokens.specs.Whole.{marking, tokens_of}

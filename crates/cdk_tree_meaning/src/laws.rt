@@ -1,8 +1,7 @@
 // The law between the assembly of an application and its construct tree.
 ghost use Rattle.cdk_tree_meaning.specs.Law.{TreesKeepMeaning};
 
-use cdk_mentions::conditions_are_free;
-use cdk_rendered::values_fit;
+use cdk_premises::{conditions_are_free, values_fit};
 
 /// Where a directory has the manifest and the templates of an application of one stack in which no pass finds anything, it is
 /// read as the application's stacks, and under all values they come to what its construct tree means: each resource once and

@@ -1,4 +1,4 @@
-use Rattle.cdk_clean.proofs.CleanTrees.{trees_are_clean}
+use Rattle.cdk_premises.proofs.CleanTrees.{trees_are_clean}
 use Rattle.cdk_language.specs.Construct.{app_view}
 use Rattle.cdk_pass_cases.proofs.CleanTrees.{built_clean}
 use Rattle.cdk_pass_cases.proofs.passes.tree_of.Goals as goal

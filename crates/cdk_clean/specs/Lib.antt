@@ -1,2 +1,0 @@
-pub mod CleanConstruct
-pub mod Laws

@@ -1,5 +1,0 @@
-use Rattle.cdk_mentions.proofs.ConditionWays.{conditions_are_free}
-use Rattle.cdk_mentions.proofs.laws.conditions_are_free.Goals as goal
-
-pub returns : goal.returns
-returns c = conditions_are_free c.loops_are_found.ensures

@@ -1,5 +1,0 @@
-use Rattle.cdk_mentions.proofs.ElementStacks.{elements_stand_in_the_stack}
-use Rattle.cdk_mentions.proofs.laws.elements_stand_in_the_stack.Goals as goal
-
-pub returns : goal.returns
-returns c = elements_stand_in_the_stack

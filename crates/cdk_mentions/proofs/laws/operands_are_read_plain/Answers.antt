@@ -1,5 +1,0 @@
-use Rattle.cdk_mentions.proofs.PlainApplications.{operands_are_read_plain}
-use Rattle.cdk_mentions.proofs.laws.operands_are_read_plain.Goals as goal
-
-pub returns : goal.returns
-returns c = operands_are_read_plain

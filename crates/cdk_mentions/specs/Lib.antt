@@ -1,3 +1,0 @@
-pub mod OneTree
-pub mod Operands
-pub mod Laws

@@ -1,0 +1,5 @@
+use Rattle.cdk_premises.proofs.FitForms.{forms_are_canonical}
+use Rattle.cdk_premises.proofs.formed.forms_are_canonical.Goals as goal
+
+pub returns : goal.returns
+returns c = forms_are_canonical

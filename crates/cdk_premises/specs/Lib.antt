@@ -1,0 +1,14 @@
+pub mod Written
+pub mod WrittenLaws
+pub mod CleanConstruct
+pub mod CleanLaws
+pub mod Formed
+pub mod FormedConstruct
+pub mod FormedLaws
+pub mod OneTree
+pub mod Operands
+pub mod MentionsLaws
+pub mod SuitedLaws
+pub mod Room
+pub mod Own
+pub mod RenderedLaws

@@ -1,5 +1,0 @@
-use Rattle.cdk_rendered.proofs.OwnForms.{condition_forms_are_own}
-use Rattle.cdk_rendered.proofs.laws.condition_forms_are_own.Goals as goal
-
-pub returns : goal.returns
-returns c = condition_forms_are_own

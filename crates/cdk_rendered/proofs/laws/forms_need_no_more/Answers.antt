@@ -1,5 +1,0 @@
-use Rattle.cdk_rendered.proofs.OwnForms.{conditions_need_no_more, values_need_no_more}
-use Rattle.cdk_rendered.proofs.laws.forms_need_no_more.Goals as goal
-
-pub returns : goal.returns
-returns c = record { values = values_need_no_more c.loops_are_found.ensures; conditions = conditions_need_no_more c.loops_are_found.ensures }

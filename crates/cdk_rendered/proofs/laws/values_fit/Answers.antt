@@ -1,5 +1,0 @@
-use Rattle.cdk_rendered.proofs.CheckedDepths.{values_fit}
-use Rattle.cdk_rendered.proofs.laws.values_fit.Goals as goal
-
-pub returns : goal.returns
-returns c = values_fit c.loops_are_found.ensures

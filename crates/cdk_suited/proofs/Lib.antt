@@ -1,2 +1,0 @@
-pub mod SuitedOrders
-mod Instance

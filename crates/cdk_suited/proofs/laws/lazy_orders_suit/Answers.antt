@@ -1,5 +1,0 @@
-use Rattle.cdk_suited.proofs.SuitedOrders.{lazy_orders_suit}
-use Rattle.cdk_suited.proofs.laws.lazy_orders_suit.Goals as goal
-
-pub returns : goal.returns
-returns c = lazy_orders_suit

@@ -1,6 +1,0 @@
-pub mod Unmarked
-pub mod ReadExpressions
-pub mod Counted
-pub mod Walked
-pub mod Roots
-mod CarriedExample
