@@ -1,5 +1,6 @@
 // Applications that `synth` refuses.
-use crate::world::World;
+use crate::world::{SYNTH, World};
+use cdk_base::Value;
 use cdk_tally::{Group, Trouble};
 use std::alloc::Global;
 
@@ -8,7 +9,7 @@ pub struct Applications;
 
 fn told_in(alloc: Global, world: &mut World, application: &str) -> Result<String, Trouble> {
     world.set_application(application)?;
-    let status = world.synth(alloc)?;
+    let status = world.run_words(alloc, &SYNTH)?;
     Ok(String::from_str(alloc, world.refusal(status))?)
 }
 
@@ -18,7 +19,7 @@ impl Group for Applications {
     }
 
     fn told(&self, alloc: Global, document: &str) -> Result<String, Trouble> {
-        let mut world = World::ample(alloc)?;
+        let mut world = World::new(alloc, &Value::Null)?;
         let told = told_in(alloc, &mut world, document);
         drop(world);
         told

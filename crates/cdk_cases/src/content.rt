@@ -5,15 +5,6 @@ use cdk_outside::Files;
 use cdk_tally::{Trouble, text_of_file};
 use std::alloc::{AllocError, Global};
 
-// A text so many times, one behind another.
-fn repeated(alloc: Global, text: &str, times: u64) -> Result<String, AllocError> {
-    let mut all = String::new(alloc);
-    for _ in 0..times {
-        all.push_str(text)?;
-    }
-    Ok(all)
-}
-
 // A text with a number for each mark.
 fn numbered(alloc: Global, text: &str, mark: &str, number: u64) -> Result<String, AllocError> {
     let digits = number.to_string(alloc)?;
@@ -39,15 +30,6 @@ fn push_counted(
     all.push_str(piece.as_str())
 }
 
-// A text for each number from `from` on, so many, joined by commas.
-fn counted(alloc: Global, text: &str, from: u64, count: u64) -> Result<String, AllocError> {
-    let mut all = String::new(alloc);
-    for step in 0..count {
-        push_counted(alloc, &mut all, text, from.saturating_add(step))?;
-    }
-    Ok(all)
-}
-
 // The first half of a text's bytes, rounded down.
 fn first_half(alloc: Global, text: &str) -> Result<String, Trouble> {
     let half = text.get(..text.len() / 2).ok_or(Trouble::Data)?;
@@ -59,17 +41,27 @@ fn half_of_file<F: Files>(alloc: Global, source: &mut F, name: &str) -> Result<S
     first_half(alloc, text.as_str())
 }
 
+// A text so many times, one behind another.
 fn repeated_by(alloc: Global, rule: &Value) -> Result<String, Trouble> {
     let text = text_member(rule, "repeat")?;
     let times = number_member(rule, "times")?;
-    Ok(repeated(alloc, text, times)?)
+    let mut all = String::new(alloc);
+    for _ in 0..times {
+        all.push_str(text)?;
+    }
+    Ok(all)
 }
 
+// A text for each number from `from` on, so many, joined by commas.
 fn counted_by(alloc: Global, rule: &Value) -> Result<String, Trouble> {
     let text = text_member(rule, "each")?;
     let from = number_member(rule, "from")?;
     let count = number_member(rule, "count")?;
-    Ok(counted(alloc, text, from, count)?)
+    let mut all = String::new(alloc);
+    for step in 0..count {
+        push_counted(alloc, &mut all, text, from.saturating_add(step))?;
+    }
+    Ok(all)
 }
 
 // The text of one rule in an object.

@@ -1,6 +1,6 @@
 // Expressions of one application: what its template holds for them, and what that comes to.
 use crate::members::parsed;
-use crate::world::World;
+use crate::world::{EVAL, SYNTH, World};
 use cdk_base::Value;
 use cdk_memory::MemFiles;
 use cdk_outside::Files;
@@ -45,7 +45,7 @@ fn outcome_in(report: &[u8]) -> Option<&str> {
 // What is told where the template stands.
 fn told_of(alloc: Global, world: &mut World) -> Result<String, Trouble> {
     let mut told = property_of(alloc, text_at(&world.files, "out/S.template.json")?)?;
-    world.eval(alloc)?;
+    world.run_words(alloc, &EVAL)?;
     told.push_str(outcome_in(world.out.bytes()).unwrap_or(" no outcome"))?;
     Ok(told)
 }
@@ -80,7 +80,7 @@ impl Expressions {
         expression: &str,
     ) -> Result<String, Trouble> {
         self.set_files(alloc, world, expression)?;
-        let status = world.synth(alloc)?;
+        let status = world.run_words(alloc, &SYNTH)?;
         if status.number() != 0 {
             return Ok(String::from_str(alloc, world.refusal(status))?);
         }
@@ -94,7 +94,7 @@ impl Group for Expressions {
     }
 
     fn told(&self, alloc: Global, document: &str) -> Result<String, Trouble> {
-        let mut world = World::ample(alloc)?;
+        let mut world = World::new(alloc, &Value::Null)?;
         let told = self.told_in(alloc, &mut world, document);
         drop(world);
         told

@@ -4,7 +4,7 @@ use crate::members::{items_of, member, object_member, parsed, text_member};
 use crate::outcome::miss;
 use crate::words::words_of;
 use crate::world::World;
-use cdk_base::{Map, Value};
+use cdk_base::Value;
 use cdk_memory::MemFiles;
 use cdk_outside::Files;
 use cdk_tally::{Tally, Trouble, text_of_file};
@@ -40,29 +40,18 @@ fn add_file<F: Files>(
     Ok(files.add(name, bytes)?)
 }
 
-fn add_files<F: Files>(
-    alloc: Global,
-    source: &mut F,
-    files: &mut MemFiles,
-    rules: &Map,
-    cut: Option<Cut>,
-) -> Result<(), Trouble> {
-    for (name, rule) in rules {
-        add_file(alloc, source, files, name.as_str(), rule, cut)?;
-    }
-    Ok(())
-}
-
 // Adds the files of a case, one of them cut if it is one that cuts.
-fn add_case<F: Files>(
+fn add_files<F: Files>(
     alloc: Global,
     source: &mut F,
     files: &mut MemFiles,
     case: &Value,
     cut: Option<Cut>,
 ) -> Result<(), Trouble> {
-    let rules = object_member(case, "files")?;
-    add_files(alloc, source, files, rules, cut)
+    for (name, rule) in object_member(case, "files")? {
+        add_file(alloc, source, files, name.as_str(), rule, cut)?;
+    }
+    Ok(())
 }
 
 // Runs the words that a case has by the key.
@@ -87,22 +76,9 @@ fn told_in<F: Files>(
     case: &Value,
     cut: Option<Cut>,
 ) -> Result<&'static str, Trouble> {
-    add_case(alloc, source, &mut world.files, case, cut)?;
+    add_files(alloc, source, &mut world.files, case, cut)?;
     let status = run_case(alloc, case, world)?;
     miss(alloc, source, case, world, status)
-}
-
-// What is wrong with a run of the case, or an empty text.
-fn told<F: Files>(
-    alloc: Global,
-    source: &mut F,
-    case: &Value,
-    cut: Option<Cut>,
-) -> Result<&'static str, Trouble> {
-    let mut world = World::new(alloc, case)?;
-    let told = told_in(alloc, source, &mut world, case, cut);
-    drop(world);
-    told
 }
 
 fn try_run<F: Files>(
@@ -113,9 +89,11 @@ fn try_run<F: Files>(
     name: &str,
     tally: &mut Tally,
 ) -> Result<(), Trouble> {
-    let told = told(alloc, source, case, cut)?;
-    tally.note(told.is_empty(), name, told)?;
-    Ok(())
+    let mut world = World::new(alloc, case)?;
+    let told = told_in(alloc, source, &mut world, case, cut);
+    drop(world);
+    let told = told?;
+    Ok(tally.note(told.is_empty(), name, told)?)
 }
 
 // The length of the text of a case's file.

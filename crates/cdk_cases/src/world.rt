@@ -12,6 +12,12 @@ const DIRECTORIES: usize = 10;
 
 const ROOM: usize = 20_000;
 
+/// The words that synthesize the application in `app.json`.
+pub const SYNTH: [&str; 3] = ["synth", "app.json", "out"];
+
+/// The words that evaluate what came of it under the values in `v.json`.
+pub const EVAL: [&str; 3] = ["eval", "out", "v.json"];
+
 /// The files and both streams of one run.
 #[derive(Drop)]
 pub struct World {
@@ -61,19 +67,11 @@ fn fault_in(line: &[u8]) -> Option<&str> {
 }
 
 impl World {
-    /// No files yet, with the room and the failing calls that a case gives.
+    /// No files yet, with the room and the failing calls that a case gives. Null gives ample room and no failing call.
     pub fn new(alloc: Global, case: &Value) -> Result<Self, Trouble> {
         let out = sink(alloc, case, "failingOut")?;
         let err = sink(alloc, case, "failingErr")?;
         let files = files(alloc, case)?;
-        Ok(World { files, out, err })
-    }
-
-    /// No files yet, ample room, and no call that fails.
-    pub fn ample(alloc: Global) -> Result<Self, AllocError> {
-        let out = MemSink::new(alloc, List::new(alloc), ROOM)?;
-        let err = MemSink::new(alloc, List::new(alloc), ROOM)?;
-        let files = MemFiles::new(alloc, List::new(alloc), DIRECTORIES, ROOM)?;
         Ok(World { files, out, err })
     }
 
@@ -87,15 +85,9 @@ impl World {
         run(alloc, words, &mut self.files, &mut self.out, &mut self.err)
     }
 
-    /// Runs `synth app.json out`.
-    pub fn synth(&mut self, alloc: Global) -> Result<Status, Trouble> {
-        let words = texts_of(alloc, &["synth", "app.json", "out"])?;
-        Ok(self.run(alloc, words.as_slice()))
-    }
-
-    /// Runs `eval out v.json`.
-    pub fn eval(&mut self, alloc: Global) -> Result<Status, Trouble> {
-        let words = texts_of(alloc, &["eval", "out", "v.json"])?;
+    /// Runs it with copies of these words.
+    pub fn run_words(&mut self, alloc: Global, words: &[&str]) -> Result<Status, Trouble> {
+        let words = texts_of(alloc, words)?;
         Ok(self.run(alloc, words.as_slice()))
     }
 

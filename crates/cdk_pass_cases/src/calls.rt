@@ -6,11 +6,11 @@ use crate::names::try_names;
 use crate::outside::try_outside;
 use crate::settings::try_settings;
 use crate::streams::try_streams;
-use cdk_tally::{Tally, Trouble};
-use std::alloc::Global;
+use cdk_tally::Tally;
+use std::alloc::{AllocError, Global};
 
 /// Tries each call once, and ends the group.
-pub fn try_calls(alloc: Global, tally: &mut Tally) -> Result<(), Trouble> {
+pub fn try_calls(alloc: Global, tally: &mut Tally) -> Result<(), AllocError> {
     try_names(alloc, tally)?;
     try_markers(alloc, tally)?;
     try_settings(alloc, tally)?;
@@ -18,6 +18,5 @@ pub fn try_calls(alloc: Global, tally: &mut Tally) -> Result<(), Trouble> {
     try_chains(alloc, tally)?;
     try_outside(alloc, tally)?;
     try_streams(alloc, tally)?;
-    tally.end("calls")?;
-    Ok(())
+    tally.end("calls")
 }

@@ -1,74 +1,89 @@
 // A long chain of lazies: each has that of the next one, and the last has the value 7.
-use crate::rendering::Rendering;
-use cdk_tally::{Tally, Trouble, push_between};
+use crate::passes::Pass;
+use crate::texts::compare;
+use cdk_tally::Tally;
 use std::alloc::{AllocError, Global};
 
-// How many lazies there are, and the number of the last one.
-const COUNT: usize = 5_000;
-
+// The number of the last lazy.
 const LAST: usize = 4_999;
 
 const BEFORE: &str =
     "{\"app\":\"1\",\"children\":[{\"kind\":\"stack\",\"id\":\"S\",\"children\":[{\"kind\":\"resource\",\"id\":\"R\",\"type\":\"T\",\"properties\":{\"P\":{\"CDK::Lazy\":\"S/L0\"}}}";
 
-// The beginning of a lazy, up to its value.
-fn push_head(alloc: Global, document: &mut String, n: usize) -> Result<(), AllocError> {
-    let id = format!(in alloc; "L{n}")?;
-    document.push_str(",{\"kind\":\"lazy\",\"id\":")?;
-    push_between(document, '"', id.as_str(), '"')?;
-    document.push_str(",\"value\":")
+// A lazy up to its value, that value with the end of the lazy, and what is kept of a lazy, each with `@` for a number.
+const HEAD: &str = ",{\"kind\":\"lazy\",\"id\":\"L@\",\"value\":";
+
+const MENTION: &str = "{\"CDK::Lazy\":\"S/L@\"}}";
+
+const KEPT: &str = "(S/L@ 7)";
+
+// A text with the number for each `@`.
+fn numbered(alloc: Global, text: &str, number: usize) -> Result<String, AllocError> {
+    let digits = number.to_string(alloc)?;
+    let piece = text.replace(alloc, "@", digits.as_str());
+    drop(digits);
+    piece
 }
 
-fn push_mention(alloc: Global, document: &mut String, n: usize) -> Result<(), AllocError> {
-    let path = format!(in alloc; "S/L{n}")?;
-    document.push_str("{\"CDK::Lazy\":")?;
-    push_between(document, '"', path.as_str(), '"')?;
-    document.push_str("}}")
+fn push_numbered(
+    alloc: Global,
+    all: &mut String,
+    text: &str,
+    number: usize,
+) -> Result<(), AllocError> {
+    let piece = numbered(alloc, text, number)?;
+    let pushed = all.push_str(piece.as_str());
+    drop(piece);
+    pushed
 }
 
-// A lazy that has the value of the next one.
-fn push_lazy(alloc: Global, document: &mut String, n: usize) -> Result<(), AllocError> {
-    push_head(alloc, document, n)?;
-    push_mention(alloc, document, n.saturating_add(1))
-}
-
-fn chain_document(alloc: Global) -> Result<String, AllocError> {
-    let mut document = String::from_str(alloc, BEFORE)?;
+fn push_chain(alloc: Global, document: &mut String) -> Result<(), AllocError> {
+    document.push_str(BEFORE)?;
     for n in 0..LAST {
-        push_lazy(alloc, &mut document, n)?;
+        push_numbered(alloc, document, HEAD, n)?;
+        push_numbered(alloc, document, MENTION, n + 1)?;
     }
-    push_head(alloc, &mut document, LAST)?;
-    document.push_str("7}]}]}")?;
-    Ok(document)
+    push_numbered(alloc, document, HEAD, LAST)?;
+    document.push_str("7}]}]}")
 }
 
 // What is kept: 7 of each, the last lazy first.
 fn all_kept(alloc: Global) -> Result<String, AllocError> {
     let mut wanted = String::new(alloc);
-    for before in 0..COUNT {
-        let n = LAST.saturating_sub(before);
-        let result = format!(in alloc; "S/L{n} 7")?;
-        push_between(&mut wanted, '(', result.as_str(), ')')?;
+    for before in 0..=LAST {
+        push_numbered(alloc, &mut wanted, KEPT, LAST - before)?;
     }
     Ok(wanted)
 }
 
-fn try_json(alloc: Global, document: &str, tally: &mut Tally) -> Result<(), AllocError> {
-    let told = Rendering::Json.told_at(alloc, document, "S/R")?;
-    tally.compare("a chain of lazies", "{\"P\":7}", told.as_str())
+fn try_told(
+    alloc: Global,
+    document: &str,
+    tally: &mut Tally,
+    pass: Pass,
+    case: &str,
+    want: &str,
+) -> Result<(), AllocError> {
+    let told = pass.told_at(alloc, document, "S/R")?;
+    compare(tally, case, want, told)
 }
 
-fn try_kept(alloc: Global, document: &str, tally: &mut Tally) -> Result<(), AllocError> {
-    let wanted = all_kept(alloc)?;
-    let told = Rendering::Results.told_at(alloc, document, "S/R")?;
-    let holds = told.as_str() == wanted.as_str();
-    tally.note(holds, "results of a chain of lazies", "otherwise")
+fn try_document(alloc: Global, document: &str, tally: &mut Tally) -> Result<(), AllocError> {
+    let (json, kept) = ("a chain of lazies", "results of a chain of lazies");
+    try_told(alloc, document, tally, Pass::Rendering, json, "{\"P\":7}")?;
+    let want = all_kept(alloc)?;
+    let tried = try_told(alloc, document, tally, Pass::Keeping, kept, want.as_str());
+    drop(want);
+    tried
 }
 
 /// Tries a value that reaches a lazy through all others.
-pub fn try_chains(alloc: Global, tally: &mut Tally) -> Result<(), Trouble> {
-    let document = chain_document(alloc)?;
-    try_json(alloc, document.as_str(), tally)?;
-    try_kept(alloc, document.as_str(), tally)?;
-    Ok(())
+pub fn try_chains(alloc: Global, tally: &mut Tally) -> Result<(), AllocError> {
+    let mut document = String::new(alloc);
+    let tried = match push_chain(alloc, &mut document) {
+        Ok(()) => try_document(alloc, document.as_str(), tally),
+        Err(error) => Err(error),
+    };
+    drop(document);
+    tried
 }

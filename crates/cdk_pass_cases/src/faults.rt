@@ -10,12 +10,14 @@ fn numbered_place(alloc: Global, number: u8, place: &str) -> Result<String, Allo
     format!(in alloc; "{number} ={place}")
 }
 
-/// A fault of an application.
-pub fn fault_text(alloc: Global, fault: &Fault) -> Result<String, AllocError> {
-    match fault {
+/// A fault of an application, of which it lets go.
+pub fn fault_text(alloc: Global, fault: Fault) -> Result<String, AllocError> {
+    let told = match &fault {
         Fault::App { code, place } => numbered_place(alloc, code.number(), place.as_str()),
         Fault::Memory | Fault::Refused { .. } => Err(AllocError),
-    }
+    };
+    drop(fault);
+    told
 }
 
 /// A construct's path.

@@ -3,8 +3,8 @@ use crate::faults::{error_text, path_text};
 use cdk_base::List;
 use cdk_lazies::lazy_order;
 use cdk_tally::push_between;
-use cdk_tokens::mark;
-use cdk_tree::{NodeId, PassError, Tree};
+use cdk_tokens::{Marked, Table};
+use cdk_tree::{NodeId, Tree};
 use std::alloc::{AllocError, Global};
 
 // The lazies' paths, each in round brackets.
@@ -16,14 +16,14 @@ fn order_text(alloc: Global, tree: &Tree, order: &List<NodeId>) -> Result<String
     Ok(told)
 }
 
-fn order_of(alloc: Global, tree: &Tree) -> Result<List<NodeId>, PassError> {
-    let (marked, table) = mark(alloc, tree)?;
-    lazy_order(alloc, tree, &table, &marked)
-}
-
 /// The paths of the lazies in their order, or the first lazy or condition that reaches itself.
-pub fn told(alloc: Global, tree: &Tree) -> Result<String, AllocError> {
-    match order_of(alloc, tree) {
+pub fn told(
+    alloc: Global,
+    tree: &Tree,
+    marked: &Marked,
+    table: &Table,
+) -> Result<String, AllocError> {
+    match lazy_order(alloc, tree, table, marked) {
         Ok(order) => order_text(alloc, tree, &order),
         Err(error) => error_text(alloc, tree, error),
     }

@@ -5,7 +5,6 @@
 mod calls;
 mod chains;
 mod checking;
-mod documents;
 mod faults;
 mod lazies;
 mod look_ups;
@@ -15,37 +14,27 @@ mod outside;
 mod passes;
 mod rendering;
 mod settings;
-mod sizes;
 mod spellings;
 mod streams;
-mod targets;
+mod texts;
 mod tokens;
 
 use crate::calls::try_calls;
-use crate::documents::Documents;
 use crate::passes::Pass;
-use crate::rendering::Rendering;
 use cdk_outside::Files;
 use cdk_tally::{Tally, Trouble, try_group};
 use std::alloc::Global;
 
-fn try_passes<F: Files>(alloc: Global, source: &mut F, tally: &mut Tally) -> Result<(), Trouble> {
-    for pass in [Pass::Targets, Pass::Marking, Pass::Ordering, Pass::Sizing] {
-        try_group(alloc, source, &pass, tally)?;
-    }
-    Ok(())
-}
-
-fn try_renderings<F: Files>(
-    alloc: Global,
-    source: &mut F,
-    tally: &mut Tally,
-) -> Result<(), Trouble> {
-    for rendering in [Rendering::Json, Rendering::Results] {
-        try_group(alloc, source, &rendering, tally)?;
-    }
-    Ok(())
-}
+// The groups of rows, in their order.
+const PASSES: [Pass; 7] = [
+    Pass::Reading,
+    Pass::Targets,
+    Pass::Marking,
+    Pass::Ordering,
+    Pass::Sizing,
+    Pass::Rendering,
+    Pass::Keeping,
+];
 
 /// Tries each group of rows whose file the source has, and then the single calls. `Memory` where no memory is found,
 /// `Data` where a file can't be read or a row misses its form.
@@ -54,8 +43,8 @@ pub fn try_pass_cases<F: Files>(
     source: &mut F,
     tally: &mut Tally,
 ) -> Result<(), Trouble> {
-    try_group(alloc, source, &Documents, tally)?;
-    try_passes(alloc, source, tally)?;
-    try_renderings(alloc, source, tally)?;
-    try_calls(alloc, tally)
+    for pass in &PASSES {
+        try_group(alloc, source, pass, tally)?;
+    }
+    Ok(try_calls(alloc, tally)?)
 }

@@ -1,34 +1,33 @@
 // Values and conditions as the template of their stack holds them.
-ghost use Rattle.std.specs.Prelude.{◌≡◌, ◌<◌, length, true};
+ghost use Rattle.std.specs.Prelude.{◌<◌, length};
 ghost use Rattle.cdk_expansion.specs.Clean.{TreeIsClean};
 ghost use Rattle.cdk_leaves.specs.Ready.{IsReady};
 ghost use Rattle.cdk_pass_cases.specs.Marked.{AreMarked};
 ghost use Rattle.cdk_tokens.specs.TableView.{marked_in, tokens_in};
-ghost use Rattle.cdk_tree.specs.Expected.{is_condition};
-ghost use Rattle.cdk_tree.specs.Placed.{construct_at};
 ghost use Rattle.cdk_tree.specs.TreeView.{constructs};
 
 use crate::checking::{marks_of, order_of};
-use crate::faults::{error_text, fault_text, path_text};
-use crate::passes::tree_of;
+use crate::faults::{NO_FAULT, error_text, path_text};
 use crate::spellings::Consumer;
+use crate::texts::push_pair;
 use cdk_base::{List, Value};
 use cdk_homes::Homes;
 use cdk_language::Kind;
 use cdk_resolve::{Kept, resolve, resolve_condition};
 use cdk_stacks::{Names, names};
-use cdk_tally::{Group, Trouble, push_between};
 use cdk_tokens::{Marked, Table};
 use cdk_tree::{NodeId, Tree};
 use std::alloc::{AllocError, Global};
 
-/// What is told of the rendering of a construct's value, which is a group of rows. A row's document has the construct's path
-/// and a tab before it. Where a pass before finds a fault, it is told.
+/// What is told of an application in which the checks up to that of sizes find nothing. What they find is told in its place.
 #[derive(Clone, Copy)]
 pub enum Rendering {
-    /// The template JSON of the value, or of the condition.
+    /// Only that they find nothing.
+    Check,
+    /// The template JSON of the value, or of the condition, at a path.
     Json,
-    /// Once the value is rendered, the path of each lazy of which a result is kept, and the result, in the order of lazies.
+    /// Once the value at a path is rendered, the path of each lazy of which a result is kept, and the result, in the order
+    /// of lazies.
     Results,
 }
 
@@ -46,34 +45,27 @@ fn nothing(alloc: Global) -> Result<String, AllocError> {
     String::from_str(alloc, "no value")
 }
 
-fn value_text(
+// The text of a rendered value, of which it lets go.
+fn json_text(alloc: Global, rendered: Result<Value, AllocError>) -> Result<String, AllocError> {
+    match rendered {
+        Ok(json) => {
+            let text = json.to_string(alloc);
+            drop(json);
+            text
+        }
+        Err(error) => Err(error),
+    }
+}
+
+fn rendered_text(
     alloc: Global,
     checked: &Checked<'_>,
     homes: &Homes,
     stack: NodeId,
-    value: &Value,
-) -> Result<String, AllocError>
-    requires { IsReady (tokens_in checked.now.table.now) (marked_in checked.now.marked.now) checked.now.order.now }
-{
-    let Checked {
-        table,
-        marked,
-        order,
-        ..
-    } = *checked;
-    let json = resolve(alloc, table, marked, homes, stack, order, value)?;
-    json.to_string(alloc)
-}
-
-fn condition_text(
-    alloc: Global,
-    checked: &Checked<'_>,
-    homes: &Homes,
     at: NodeId,
 ) -> Result<String, AllocError>
     requires ready { IsReady (tokens_in checked.now.table.now) (marked_in checked.now.marked.now) checked.now.order.now }
     requires within { at < length (constructs checked.now.tree.now) }
-    requires is_condition { is_condition (construct_at (constructs checked.now.tree.now) at).body ≡ true }
 {
     let Checked {
         tree,
@@ -81,27 +73,15 @@ fn condition_text(
         marked,
         order,
     } = *checked;
-    let json = resolve_condition(alloc, tree, table, marked, homes, order, at)?;
-    json.to_string(alloc)
-}
-
-fn json_text(
-    alloc: Global,
-    checked: &Checked<'_>,
-    homes: &Homes,
-    stack: NodeId,
-    at: NodeId,
-) -> Result<String, AllocError>
-    requires ready { IsReady (tokens_in checked.now.table.now) (marked_in checked.now.marked.now) checked.now.order.now }
-    requires within { at < length (constructs checked.now.tree.now) }
-{
-    if let Kind::Condition(_) = &checked.tree.node(at).kind {
-        return condition_text(alloc, checked, homes, at);
+    if let Kind::Condition(_) = &tree.node(at).kind {
+        let json = resolve_condition(alloc, tree, table, marked, homes, order, at);
+        return json_text(alloc, json);
     }
-    match checked.marked.value(at) {
-        Some(value) => value_text(alloc, checked, homes, stack, value),
-        None => nothing(alloc),
-    }
+    let Some(value) = marked.value(at) else {
+        return nothing(alloc);
+    };
+    let json = resolve(alloc, table, marked, homes, stack, order, value);
+    json_text(alloc, json)
 }
 
 // The path of a lazy and what is kept of it, in round brackets, where anything is.
@@ -116,9 +96,9 @@ fn push_result(
         return Ok(());
     };
     let text = result.to_string(alloc)?;
-    push_between(told, '(', path_text(tree, lazy), ' ')?;
-    told.push_str(text.as_str())?;
-    told.push(')')
+    let pushed = push_pair(told, path_text(tree, lazy), text.as_str());
+    drop(text);
+    pushed
 }
 
 fn results_text(
@@ -149,17 +129,12 @@ fn kept_text(
         ..
     } = *checked;
     let mut kept = Kept::new(alloc, table, marked, homes, stack, order);
-    drop(kept.resolve(value)?);
-    results_text(alloc, checked, &kept)
-}
-
-// The stack that a construct stands in; the root where it stands in none.
-fn stack_at(tree: &Tree, at: NodeId) -> NodeId
-    requires { at < length (constructs tree.now) }
-{
-    match tree.stack_of(at) {
-        Some(stack) => stack,
-        None => NodeId::ROOT,
+    match kept.resolve(value) {
+        Ok(json) => {
+            drop(json);
+            results_text(alloc, checked, &kept)
+        }
+        Err(error) => Err(error),
     }
 }
 
@@ -175,12 +150,12 @@ impl Rendering {
         requires ready { IsReady (tokens_in checked.now.table.now) (marked_in checked.now.marked.now) checked.now.order.now }
         requires within { at < length (constructs checked.now.tree.now) }
     {
-        match self {
-            Rendering::Json => json_text(alloc, checked, homes, stack, at),
-            Rendering::Results => match checked.marked.value(at) {
-                Some(value) => kept_text(alloc, checked, homes, stack, value),
-                None => nothing(alloc),
-            },
+        let Rendering::Results = self else {
+            return rendered_text(alloc, checked, homes, stack, at);
+        };
+        match checked.marked.value(at) {
+            Some(value) => kept_text(alloc, checked, homes, stack, value),
+            None => nothing(alloc),
         }
     }
 
@@ -195,26 +170,16 @@ impl Rendering {
         requires within { at < length (constructs checked.now.tree.now) }
     {
         let tree = checked.tree;
-        let stack = stack_at(tree, at);
+        // The root stands in no stack.
+        let stack = tree.stack_of(at).unwrap_or(NodeId::ROOT);
         let consumer = Consumer { tree, names, stack };
         let mut homes = Homes::new(alloc);
-        consumer.put_all(alloc, &mut homes, checked.table)?;
-        self.told_with(alloc, checked, &homes, stack, at)
-    }
-
-    fn told_of_construct(
-        self,
-        alloc: Global,
-        checked: &Checked<'_>,
-        at: NodeId,
-    ) -> Result<String, AllocError>
-        requires ready { IsReady (tokens_in checked.now.table.now) (marked_in checked.now.marked.now) checked.now.order.now }
-        requires within { at < length (constructs checked.now.tree.now) }
-    {
-        match names(alloc, checked.tree) {
-            Ok(names) => self.told_by_names(alloc, checked, &names, at),
-            Err(error) => error_text(alloc, checked.tree, error),
-        }
+        let told = match consumer.put_all(alloc, &mut homes, checked.table) {
+            Ok(()) => self.told_with(alloc, checked, &homes, stack, at),
+            Err(error) => Err(error),
+        };
+        drop(homes);
+        told
     }
 
     fn told_of_path(
@@ -225,9 +190,15 @@ impl Rendering {
     ) -> Result<String, AllocError>
         requires { IsReady (tokens_in checked.now.table.now) (marked_in checked.now.marked.now) checked.now.order.now }
     {
-        match checked.tree.find(path) {
-            Some(at) => self.told_of_construct(alloc, checked, at),
-            None => nothing(alloc),
+        if let Rendering::Check = self {
+            return String::from_str(alloc, NO_FAULT);
+        }
+        let Some(at) = checked.tree.find(path) else {
+            return nothing(alloc);
+        };
+        match names(alloc, checked.tree) {
+            Ok(names) => self.told_by_names(alloc, checked, &names, at),
+            Err(error) => error_text(alloc, checked.tree, error),
         }
     }
 
@@ -254,34 +225,13 @@ impl Rendering {
         self.told_of_path(alloc, &checked, path)
     }
 
-    fn told_of_tree(self, alloc: Global, tree: &Tree, path: &str) -> Result<String, AllocError>
+    /// What is told of an application, and of the construct at the path, or the first fault that a check finds.
+    pub fn told(self, alloc: Global, tree: &Tree, path: &str) -> Result<String, AllocError>
         requires { TreeIsClean (constructs tree.now) }
     {
         match marks_of(alloc, tree) {
             Ok((marked, table)) => self.told_of_marks(alloc, tree, &table, &marked, path),
             Err(error) => error_text(alloc, tree, error),
         }
-    }
-
-    /// What is told of the construct at a path of a document's application.
-    pub fn told_at(self, alloc: Global, document: &str, path: &str) -> Result<String, AllocError> {
-        match tree_of(alloc, document.as_bytes()) {
-            Ok(tree) => self.told_of_tree(alloc, &tree, path),
-            Err(fault) => fault_text(alloc, &fault),
-        }
-    }
-}
-
-impl Group for Rendering {
-    fn name(&self) -> &'static str {
-        match self {
-            Rendering::Json => "rendering",
-            Rendering::Results => "kept",
-        }
-    }
-
-    fn told(&self, alloc: Global, row: &str) -> Result<String, Trouble> {
-        let (path, document) = row.split_once('\t').ok_or(Trouble::Data)?;
-        Ok(self.told_at(alloc, document, path)?)
     }
 }

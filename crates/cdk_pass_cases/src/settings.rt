@@ -1,26 +1,49 @@
 // Settings of the command line.
-use cdk_base::{Fault, Setting, Text, Value};
+use crate::faults::{NO_FAULT, fault_text};
+use crate::texts::compare;
+use cdk_base::{Fault, List, Setting, Text, Value};
 use cdk_doc::{read_app, with_settings};
-use cdk_language::Finding;
-use cdk_settings::first_setting_finding;
-use cdk_tally::{Tally, Trouble};
+use cdk_settings::{fault_of, first_setting_finding};
+use cdk_tally::Tally;
 use cdk_tree::{Tree, build};
 use std::alloc::{AllocError, Global};
 
-fn setting(alloc: Global, key: &str, value: &str) -> Result<Setting, AllocError> {
+const NEW: [(&str, &str); 1] = [("k", "new")];
+
+const MARKED: [(&str, &str); 2] = [("a", "b"), ("k", "x#{Token[")];
+
+fn push_setting(
+    alloc: Global,
+    settings: &mut List<Setting>,
+    key: &str,
+    value: &str,
+) -> Result<(), AllocError> {
     let key = Text::new(alloc, key)?;
     let value = Text::new(alloc, value)?;
-    Ok(Setting { key, value })
+    settings.push(Setting { key, value })?;
+    Ok(())
+}
+
+// The settings of keys and values.
+fn settings_of(alloc: Global, pairs: &[(&str, &str)]) -> Result<List<Setting>, AllocError> {
+    let mut settings = List::new(alloc);
+    for (key, value) in pairs {
+        push_setting(alloc, &mut settings, key, value)?;
+    }
+    Ok(settings)
 }
 
 // The tree of an application with the settings laid over its context.
 fn tree_with(alloc: Global, settings: &[Setting]) -> Result<Tree, Fault> {
-    let app = read_app(
-        alloc,
-        b"{\"app\":\"2\",\"context\":{\"k\":1},\"children\":[]}",
-    )?;
-    let app = with_settings(alloc, app, settings)?;
-    build(alloc, app)
+    let document = b"{\"app\":\"2\",\"context\":{\"k\":1},\"children\":[]}";
+    let app = match read_app(alloc, document) {
+        Ok(app) => app,
+        Err(fault) => return Err(fault),
+    };
+    match with_settings(alloc, app, settings) {
+        Ok(app) => build(alloc, app),
+        Err(fault) => Err(fault),
+    }
 }
 
 fn root_context(tree: &Tree) -> Option<&str> {
@@ -28,40 +51,35 @@ fn root_context(tree: &Tree) -> Option<&str> {
     tree.context(root, "k").and_then(Value::as_str)
 }
 
-fn try_root(tree: &Tree, tally: &mut Tally) -> Result<(), Trouble> {
-    let told = root_context(tree).unwrap_or("no text");
-    tally.compare("a setting over a context", "new", told)?;
-    Ok(())
-}
-
-fn try_context(alloc: Global, tally: &mut Tally) -> Result<(), Trouble> {
-    let given = [setting(alloc, "k", "new")?];
-    match tree_with(alloc, &given) {
-        Ok(tree) => try_root(&tree, tally),
-        Err(_) => Err(Trouble::Data),
+// The text that the root's context has under the settings, or the fault.
+fn context_text(alloc: Global, settings: &[Setting]) -> Result<String, AllocError> {
+    match tree_with(alloc, settings) {
+        Ok(tree) => {
+            let told = String::from_str(alloc, root_context(&tree).unwrap_or("no text"));
+            drop(tree);
+            told
+        }
+        Err(fault) => fault_text(alloc, fault),
     }
 }
 
-fn marked_settings(alloc: Global) -> Result<[Setting; 2], AllocError> {
-    let clean = setting(alloc, "a", "b")?;
-    let marked = setting(alloc, "k", "x#{Token[")?;
-    Ok([clean, marked])
-}
-
-fn marked_finding(alloc: Global) -> Result<Option<Finding>, AllocError> {
-    let settings = marked_settings(alloc)?;
-    first_setting_finding(alloc, &settings)
-}
-
-fn try_marker(alloc: Global, tally: &mut Tally) -> Result<(), Trouble> {
-    let found = marked_finding(alloc)?.ok_or(Trouble::Data)?;
-    let holds = found.place.as_str() == "=k" && found.code.number() == 5;
-    tally.note(holds, "a marker in a setting", found.place.as_str())?;
-    Ok(())
+// The first fault of the settings themselves.
+fn first_fault(alloc: Global, settings: &[Setting]) -> Result<String, AllocError> {
+    match first_setting_finding(alloc, settings) {
+        Ok(Some(finding)) => fault_text(alloc, fault_of(finding)),
+        Ok(None) => String::from_str(alloc, NO_FAULT),
+        Err(error) => Err(error),
+    }
 }
 
 /// Tries a setting over a context, and one that holds a marker's beginning.
-pub fn try_settings(alloc: Global, tally: &mut Tally) -> Result<(), Trouble> {
-    try_context(alloc, tally)?;
-    try_marker(alloc, tally)
+pub fn try_settings(alloc: Global, tally: &mut Tally) -> Result<(), AllocError> {
+    let settings = settings_of(alloc, &NEW)?;
+    let told = context_text(alloc, settings.as_slice());
+    drop(settings);
+    compare(tally, "a setting over a context", "new", told?)?;
+    let settings = settings_of(alloc, &MARKED)?;
+    let told = first_fault(alloc, settings.as_slice());
+    drop(settings);
+    compare(tally, "a marker in a setting", "5 ==k", told?)
 }

@@ -26,10 +26,18 @@ fn is_list(kind: &Kind) -> bool {
     }
 }
 
-fn export_text(alloc: Global, path: &str, attribute: Option<&str>) -> Result<String, AllocError> {
-    match attribute {
-        Some(attribute) => format!(in alloc; "{path}.{attribute}"),
-        None => String::from_str(alloc, path),
+// The name in a home: the logical name in the stack itself, elsewhere that of the export.
+fn name_in(
+    alloc: Global,
+    how: Home,
+    logical: &str,
+    path: &str,
+    attribute: Option<&str>,
+) -> Result<String, AllocError> {
+    match (how, attribute) {
+        (Home::Local, _) => String::from_str(alloc, logical),
+        (_, Some(attribute)) => format!(in alloc; "{path}.{attribute}"),
+        (_, None) => String::from_str(alloc, path),
     }
 }
 
@@ -56,43 +64,17 @@ fn put_once(
 }
 
 impl Consumer<'_> {
-    fn has(&self, at: NodeId) -> bool
-        requires { at < length (constructs self.now.tree.now) }
-    {
-        match self.tree.stack_of(at) {
-            Some(stack) => stack == self.stack,
-            None => false,
-        }
-    }
-
     // Where a construct is found, seen from the stack.
     fn home(&self, at: NodeId) -> Home
         requires { at < length (constructs self.now.tree.now) }
     {
-        if self.has(at) {
+        if self.tree.stack_of(at) == Some(self.stack) {
             Home::Local
         } else if is_list(&self.tree.node(at).kind) {
             Home::ImportList
         } else {
             Home::Import
         }
-    }
-
-    // The name in that home, of a construct with this logical name.
-    fn name(
-        &self,
-        alloc: Global,
-        at: NodeId,
-        attribute: Option<&str>,
-        logical: &str,
-    ) -> Result<Text, AllocError>
-        requires { at < length (constructs self.now.tree.now) }
-    {
-        if self.has(at) {
-            return Text::new(alloc, logical);
-        }
-        let name = export_text(alloc, self.tree.path_of(at), attribute)?;
-        Ok(Text::from_string(name))
     }
 
     // Keeps how a construct or its attribute is spelled, where it is an element.
@@ -108,9 +90,10 @@ impl Consumer<'_> {
         let Some(logical) = self.names.logical(at) else {
             return Ok(());
         };
-        let name = self.name(alloc, at, attribute, logical)?;
+        let how = self.home(at);
+        let name = name_in(alloc, how, logical, self.tree.path_of(at), attribute)?;
         let target = target_of(alloc, at, attribute)?;
-        put_once(homes, target, self.stack, name, self.home(at))
+        put_once(homes, target, self.stack, Text::from_string(name), how)
     }
 
     // Keeps how the attribute is spelled that a token names.
@@ -124,29 +107,6 @@ impl Consumer<'_> {
         }
     }
 
-    fn put_elements(&self, alloc: Global, homes: &mut Homes) -> Result<(), AllocError> {
-        for n in 0..self.tree.len() {
-            if let Some(at) = self.tree.id(n) {
-                self.put(alloc, homes, at, None)?;
-            }
-        }
-        Ok(())
-    }
-
-    fn put_attributes(
-        &self,
-        alloc: Global,
-        homes: &mut Homes,
-        table: &Table,
-    ) -> Result<(), AllocError> {
-        for n in 0..table.len() {
-            if let Some(token) = table.token(n) {
-                self.put_form(alloc, homes, &token.form)?;
-            }
-        }
-        Ok(())
-    }
-
     /// Keeps how each element is spelled, and each attribute that a token names.
     pub fn put_all(
         &self,
@@ -154,7 +114,16 @@ impl Consumer<'_> {
         homes: &mut Homes,
         table: &Table,
     ) -> Result<(), AllocError> {
-        self.put_elements(alloc, homes)?;
-        self.put_attributes(alloc, homes, table)
+        for n in 0..self.tree.len() {
+            if let Some(at) = self.tree.id(n) {
+                self.put(alloc, homes, at, None)?;
+            }
+        }
+        for n in 0..table.len() {
+            if let Some(token) = table.token(n) {
+                self.put_form(alloc, homes, &token.form)?;
+            }
+        }
+        Ok(())
     }
 }

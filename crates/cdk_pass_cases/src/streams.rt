@@ -1,40 +1,34 @@
-// Readers and writers that move few bytes at a time.
-use cdk_outside::{Failed, ReadError, Sink, StdSink, read_up_to};
-use cdk_tally::{Tally, Trouble};
+// A reader and a writer that move few bytes at a time.
+use cdk_outside::{ReadError, Sink, StdSink, read_up_to};
+use cdk_tally::Tally;
 use std::alloc::{AllocError, Global};
 use std::io::{self, Read, Write};
 
-// A reader and writer that moves at most three bytes at a time, and so many times.
+// A reader and writer that moves at most three bytes at a time, and so many times. It keeps no bytes that are written.
 #[derive(Drop)]
-struct Slow {
-    bytes: Vec<u8>,
-    at: usize,
+struct Slow<'a> {
+    rest: &'a [u8],
     times: usize,
 }
 
-impl Read for Slow {
+impl Read for Slow<'_> {
     fn read(&mut self, buf: &mut [u8]) -> io::Result<usize> {
         if self.times == 0 {
             return Err(io::Error::from(io::ErrorKind::Interrupted));
         }
         self.times -= 1;
-        let mut rest = self.bytes.get(self.at..).unwrap_or(&[]);
         let most = buf.len().min(3);
-        let n = rest.read(&mut buf[..most])?;
-        self.at = self.at.saturating_add(n);
-        Ok(n)
+        self.rest.read(&mut buf[..most])
     }
 }
 
-impl Write for Slow {
+impl Write for Slow<'_> {
     fn write(&mut self, buf: &[u8]) -> io::Result<usize> {
         if self.times == 0 {
             return Ok(0);
         }
         self.times -= 1;
-        let n = buf.len().min(3);
-        self.bytes.extend_from_slice(&buf[..n])?;
-        Ok(n)
+        Ok(buf.len().min(3))
     }
 
     fn flush(&mut self) -> io::Result<()> {
@@ -44,48 +38,41 @@ impl Write for Slow {
 
 const TEN_BYTES: &[u8] = b"ten bytes.";
 
-fn stream_of(alloc: Global, bytes: &[u8], times: usize) -> Result<Slow, AllocError> {
-    let bytes = bytes.to_vec(alloc)?;
-    Ok(Slow {
-        bytes,
-        at: 0,
-        times,
-    })
-}
-
 // What comes of reading ten bytes so many times, up to a limit.
-fn read_slowly(alloc: Global, times: usize, limit: usize) -> Result<Vec<u8>, ReadError> {
-    let mut stream = stream_of(alloc, TEN_BYTES, times)?;
-    read_up_to(alloc, &mut stream, limit)
+fn read_slowly(alloc: Global, times: usize, limit: usize) -> &'static str {
+    let mut stream = Slow {
+        rest: TEN_BYTES,
+        times,
+    };
+    let read = read_up_to(alloc, &mut stream, limit);
+    let told = match &read {
+        Ok(read) if read.as_slice() == TEN_BYTES => "all",
+        Ok(_) => "other bytes",
+        Err(ReadError::TooLong) => "too long",
+        Err(ReadError::Failed) => "a failure",
+        Err(ReadError::Memory) => "no memory",
+    };
+    drop(read);
+    told
 }
 
-fn reads_all(alloc: Global) -> bool {
-    matches!(&read_slowly(alloc, 5, 10), Ok(read) if read.as_slice() == TEN_BYTES)
-}
-
-fn refuses_more(alloc: Global) -> bool {
-    matches!(read_slowly(alloc, 5, 9), Err(ReadError::TooLong))
-}
-
-fn tells_failure(alloc: Global) -> bool {
-    matches!(read_slowly(alloc, 3, 10), Err(ReadError::Failed))
-}
-
-fn writes_all(alloc: Global) -> Result<bool, AllocError> {
-    let mut sink = StdSink::new(stream_of(alloc, b"", 4)?);
-    let first = sink.write(TEN_BYTES).is_ok();
-    let second = matches!(sink.write(b"more"), Err(Failed));
-    Ok(first && second)
+// Whether ten bytes are written in four times, and no more.
+fn writes_all() -> bool {
+    let mut sink = StdSink::new(Slow {
+        rest: &[],
+        times: 4,
+    });
+    sink.write(TEN_BYTES).is_ok() && sink.write(b"more").is_err()
 }
 
 /// Tries slow streams.
-pub fn try_streams(alloc: Global, tally: &mut Tally) -> Result<(), Trouble> {
-    let written = writes_all(alloc)?;
-    tally.note_each(&[
-        ("a slow read", reads_all(alloc)),
-        ("a read past the limit", refuses_more(alloc)),
-        ("a read that fails", tells_failure(alloc)),
-        ("slow writes", written),
-    ])?;
-    Ok(())
+pub fn try_streams(alloc: Global, tally: &mut Tally) -> Result<(), AllocError> {
+    tally.compare("a slow read", "all", read_slowly(alloc, 5, 10))?;
+    tally.compare(
+        "a read past the limit",
+        "too long",
+        read_slowly(alloc, 5, 9),
+    )?;
+    tally.compare("a read that fails", "a failure", read_slowly(alloc, 3, 10))?;
+    tally.note(writes_all(), "slow writes", "otherwise")
 }
