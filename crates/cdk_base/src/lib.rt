@@ -5,6 +5,7 @@ mod code;
 mod fault;
 mod marker;
 mod parsing;
+mod pointer;
 mod text;
 mod value_text;
 
@@ -12,6 +13,7 @@ pub use code::Code;
 pub use fault::Fault;
 pub use marker::has_marker;
 pub use parsing::parse;
+pub use pointer::{step_to, step_to_index};
 pub use serde_json::Value;
 pub use sqlite_items::Items as List;
 pub use text::Text;

@@ -4,9 +4,8 @@ ghost use Rattle.serde_json.specs.View.{view, items_view, members_view};
 ghost use Rattle.cdk_eval.specs.Form.{first_of, place, inside, in_items, in_members, first_miss as spec_first_miss};
 
 use crate::members::member_role;
-use crate::pointer::{step_to, step_to_index};
 use crate::roles::{fits, item_role, settled};
-use cdk_base::{Map, Text, Value};
+use cdk_base::{Map, Text, Value, step_to, step_to_index};
 use cdk_eval::Role;
 use std::alloc::{AllocError, Global};
 

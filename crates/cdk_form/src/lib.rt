@@ -4,7 +4,6 @@
 
 mod first;
 mod members;
-mod pointer;
 mod roles;
 
 pub use first::first_miss;

@@ -1,35 +1,10 @@
 // JSON Pointers (RFC 6901), built from the finding up to the root.
-ghost use Rattle.std.specs.Prelude.{◌≡◌, ◌++◌, IfOk, OnOk, string_bytes, encode_utf8, decimal};
-ghost use Rattle.cdk_base.specs.Pointer.{escape, step_to};
+ghost use Rattle.std.specs.Prelude.{◌≡◌, IfOk, decimal};
 ghost use Rattle.cdk_language.specs.Findings.{under};
 
-use cdk_base::Text;
+use cdk_base::step_to;
 use cdk_language::Finding;
 use std::alloc::{AllocError, Global};
-
-fn push_escaped(place: &mut String, c: char) -> Result<(), AllocError>
-    ensures { OnOk result (string_bytes place.new ≡ string_bytes place.old ++ escape (encode_utf8 c)) }
-{
-    if c == '~' {
-        return place.push_str("~0");
-    }
-    if c == '/' {
-        return place.push_str("~1");
-    }
-    place.push(c)
-}
-
-fn step_to(alloc: Global, step: &str, rest: &str) -> Result<Text, AllocError>
-    ensures { IfOk result (λ t. t ≡ step_to step.now rest.now) }
-{
-    let mut place = String::new(alloc);
-    place.push('/')?;
-    for c in step.chars() {
-        push_escaped(&mut place, c)?;
-    }
-    place.push_str(rest)?;
-    Ok(Text::from_string(place))
-}
 
 /// The finding in a member, as the member's object tells it.
 pub fn under(alloc: Global, step: &str, finding: Finding) -> Result<Finding, AllocError>

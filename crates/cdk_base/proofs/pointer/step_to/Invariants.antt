@@ -1,7 +1,7 @@
 use Rattle.std.proofs.Common.{◌≡◌, ◌∷◌, ◌++◌, string_bytes}
 use Rattle.std.specs.Str.Iter.{chars_rest}
 use Rattle.cdk_base.specs.Pointer.{escape}
-use Rattle.cdk_places.proofs.pointer.step_to.Given as goal
+use Rattle.cdk_base.proofs.pointer.step_to.Given as goal
 
 abbrev pub invariant-loop-c : goal.invariant-loop-c
 invariant-loop-c l =

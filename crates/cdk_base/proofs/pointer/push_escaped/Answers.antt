@@ -1,7 +1,7 @@
 use Rattle.std.proofs.Common.{◌≡◌, ℕ, List, ◌++◌, cond, Result, Ok, Err, is_ok, sym, ap, ◌∙◌}
 use Rattle.std.specs.Prelude.{OnOk, encode_utf8}
-use Rattle.cdk_form.proofs.Escaped.{escape-char}
-use Rattle.cdk_form.proofs.pointer.push_escaped.Goals as goal
+use Rattle.cdk_base.proofs.Escaped.{escape-char}
+use Rattle.cdk_base.proofs.pointer.push_escaped.Goals as goal
 
 on_pushed : {T E : Type 0} (r : Result T E) (new old more same : List ℕ) → new ≡ cond (is_ok r) (old ++ more) old → same ≡ more → OnOk r (new ≡ old ++ same)
 on_pushed (Ok u) new old more same e f = e ∙ ap (λ s. old ++ s) (sym f)

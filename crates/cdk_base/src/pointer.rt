@@ -2,7 +2,7 @@
 ghost use Rattle.std.specs.Prelude.{◌≡◌, ◌++◌, IfOk, OnOk, string_bytes, encode_utf8, decimal};
 ghost use Rattle.cdk_base.specs.Pointer.{escape, step_to};
 
-use cdk_base::Text;
+use crate::text::Text;
 use std::alloc::{AllocError, Global};
 
 fn push_escaped(place: &mut String, c: char) -> Result<(), AllocError>
