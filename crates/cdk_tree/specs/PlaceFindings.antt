@@ -8,24 +8,10 @@ use Rattle.cdk_base.specs.declared.code.Code.TheVariants.{BadId, SameId, BadPlac
 use Rattle.cdk_language.specs.Construct as language
 use Rattle.cdk_language.specs.Construct.{Body}
 use Rattle.cdk_language.specs.declared.finding.Finding.{Finding}
-use Rattle.cdk_tree.specs.Placed.{Placed, construct_at, is_stack, is_stage}
-
--- printable ASCII, `/` left out
-abbrev pub is_id_byte : ℕ → Bool
-is_id_byte x = nat_le 32 x && nat_le x 126 && not (x == 47)
-
--- 1 to 400 characters, each printable ASCII and none `/`
-abbrev pub is_id : List ℕ → Bool
-is_id s = nat_le 1 (length s) && nat_le (length s) 400 && list_all is_id_byte s
-
--- what a template holds: resources, parameters, conditions, mappings and outputs
-abbrev pub is_element : Body → Bool
-is_element (language.resource r) = true
-is_element (language.parameter p) = true
-is_element (language.condition_body c) = true
-is_element (language.mapping m) = true
-is_element (language.output o) = true
-is_element b = false
+pub use Rattle.cdk_scoping.specs.Ids.{is_id, is_id_byte}
+use Rattle.cdk_scoping.specs.Places as places
+pub use Rattle.cdk_scoping.specs.Places.{is_element}
+use Rattle.cdk_tree.specs.Placed.{Placed, construct_at}
 
 -- both are children of one scope
 abbrev pub are_siblings : Placed → Placed → Bool
@@ -35,9 +21,9 @@ are_siblings p q = option_eq nat_eq p.parent q.parent
 abbrev pub has_taken_id : List Placed → Placed → Bool
 has_taken_id before p = list_any (λ q. are_siblings p q && bytes_eq p.head.id q.head.id) before
 
--- a stack or stage in a stack, an element outside every stack, or more than ten levels below the root
+-- whether a construct of the body may not stand at a level, in a scope that is in a stack or not
 abbrev pub is_misplaced : Option ℕ → ℕ → Body → Bool
-is_misplaced outer level b = ((is_stack b || is_stage b) && is_some outer) || ((is_element b && is_none outer) || nat_le 11 level)
+is_misplaced outer level b = places.is_misplaced (is_some outer) level b
 
 abbrev pub when : Bool → Code → List Code
 when b c = if b then c ∷ [] else []

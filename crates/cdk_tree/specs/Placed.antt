@@ -6,6 +6,8 @@ use Rattle.serde_json.specs.Data.{Data, Members, no_members}
 use Rattle.serde_json.specs.Find.{get_member}
 use Rattle.cdk_language.specs.Construct as language
 use Rattle.cdk_language.specs.Construct.{Application, Body, Construct, Constructs, Head}
+pub use Rattle.cdk_scoping.specs.Ids.{path_in}
+pub use Rattle.cdk_scoping.specs.Places.{is_stack, is_stage}
 
 -- Constructs are named by their numbers in the walk, from 0, which is the root.
 pub record Placed : Type 0 where
@@ -22,20 +24,6 @@ pub record Placed : Type 0 where
   pub stage : ℕ
   -- its own context, then its parent's, and so on up to the root's
   pub contexts : List Members
-
-abbrev pub is_stack : Body → Bool
-is_stack (language.stack d) = true
-is_stack b = false
-
-abbrev pub is_stage : Body → Bool
-is_stage language.stage = true
-is_stage b = false
-
--- the path of the id in a scope of the path: only ids that aren't empty are joined
-abbrev pub path_in : List ℕ → List ℕ → List ℕ
-path_in [] i = i
-path_in (x ∷ p) [] = x ∷ p
-path_in (x ∷ p) (y ∷ i) = (x ∷ p) ++ 47 ∷ y ∷ i
 
 -- the root of an application, which has the empty path whatever its id
 abbrev pub root_placed : Head → Body → Placed

@@ -7,6 +7,7 @@ ghost use Rattle.cdk_tree.specs.Slots.{constructs_in, fit_parents, fits_parent, 
 use crate::node_id::NodeId;
 use crate::slot::Slot;
 use cdk_base::{List, Value};
+use cdk_scoping::path_number;
 use indexmap::IndexMap;
 use std::alloc::{AllocError, Global};
 
@@ -87,7 +88,7 @@ impl Nodes {
         ensures value { result ≡ find_path (placed_nodes self.now) path.now }
         ensures within { IfSome result (λ n. n < length (placed_nodes self.now)) }
     {
-        match self.paths.get_index_of(path) {
+        match path_number(&self.paths, path) {
             Some(number) => Some(NodeId::new(number)),
             None => None,
         }

@@ -2,8 +2,8 @@
 ghost use Rattle.std.specs.Prelude.{◌≡◌, ◌<◌, ◌+◌, [], ◌∷◌, ◌++◌, length, IfOk, OnOk, None, string_bytes, true};
 ghost use Rattle.cdk_language.specs.Construct.{construct, kind_view, node_view, nodes_view};
 ghost use Rattle.cdk_tree.specs.NodesView.{placed_nodes};
-ghost use Rattle.cdk_tree.specs.PlaceFindings.{is_id as spec_is_id, is_element as spec_is_element, is_misplaced as spec_is_misplaced};
-ghost use Rattle.cdk_tree.specs.Placed.{construct_at, constructs_of, find_path, is_stack as spec_is_stack, is_stage as spec_is_stage, path_in as spec_path_in};
+ghost use Rattle.cdk_scoping.specs.Ids.{path_in as spec_path_in};
+ghost use Rattle.cdk_tree.specs.Placed.{construct_at, constructs_of, find_path};
 ghost use Rattle.cdk_tree.specs.Slots.{fits_parent, head_of, is_scoped, placed_of, root_slot as spec_root_slot, slot_in as spec_slot_in};
 ghost use Rattle.cdk_tree.specs.Walking.{all_placed, children_of, pending_view, waiting, wrong_code, AreBelow, ChecksPath, Completes, Enters, EntersRoot, IsSound, Places};
 
@@ -13,77 +13,9 @@ use crate::part::Part;
 use crate::pending::Pending;
 use crate::slot::Slot;
 use cdk_base::{Code, Fault, List, Text};
-use cdk_language::{Kind, Node};
+use cdk_language::Node;
+use cdk_scoping::{is_id, is_misplaced, is_stack, is_stage, path_in};
 use std::alloc::{AllocError, Global};
-
-/// The longest id, in characters.
-const ID_LIMIT: usize = 400;
-
-/// How deep constructs may stand; the children of the root are the first level.
-const LEVELS: u8 = 10;
-
-fn is_id(id: &str) -> bool
-    ensures { result ≡ spec_is_id id.now }
-{
-    for byte in id.as_bytes() {
-        if !(32 <= *byte && *byte <= 126 && *byte != b'/') {
-            return false;
-        }
-    }
-    1 <= id.len() && id.len() <= ID_LIMIT
-}
-
-/// Puts an id behind a path, after a `/` where neither is empty.
-fn join(path: &mut String, id: &str) -> Result<(), AllocError>
-    ensures { OnOk result (string_bytes path.new ≡ spec_path_in (string_bytes path.old) id.now) }
-{
-    if !path.is_empty() && !id.is_empty() {
-        path.push('/')?;
-    }
-    path.push_str(id)
-}
-
-fn path_in(alloc: Global, scope: &str, id: &str) -> Result<String, AllocError>
-    ensures { IfOk result (λ p. string_bytes p ≡ spec_path_in scope.now id.now) }
-{
-    let mut path = String::from_str(alloc, scope)?;
-    join(&mut path, id)?;
-    Ok(path)
-}
-
-fn is_stack(kind: &Kind) -> bool
-    ensures { result ≡ spec_is_stack (kind_view kind.now) }
-{
-    matches!(kind, Kind::Stack { .. })
-}
-
-fn is_stage(kind: &Kind) -> bool
-    ensures { result ≡ spec_is_stage (kind_view kind.now) }
-{
-    matches!(kind, Kind::Stage)
-}
-
-fn is_element(kind: &Kind) -> bool
-    ensures { result ≡ spec_is_element (kind_view kind.now) }
-{
-    match kind {
-        Kind::App | Kind::Stage | Kind::Stack { .. } | Kind::Group | Kind::Lazy(_) => false,
-        Kind::Resource(_)
-        | Kind::Parameter(_)
-        | Kind::Condition(_)
-        | Kind::Mapping(_)
-        | Kind::Output(_) => true,
-    }
-}
-
-/// Whether a construct of the kind may not stand in the scope.
-fn is_misplaced(scope: &Slot, kind: &Kind) -> bool
-    ensures { result ≡ spec_is_misplaced scope.now.stack (scope.now.level + 1) (kind_view kind.now) }
-{
-    ((is_stack(kind) || is_stage(kind)) && scope.stack.is_some())
-        || (is_element(kind) && scope.stack.is_none())
-        || scope.level >= LEVELS
-}
 
 /// The first thing that is wrong with a construct.
 fn first_wrong(nodes: &Nodes, parent: NodeId, path: &str, part: &Part) -> Option<Code>
@@ -97,7 +29,8 @@ fn first_wrong(nodes: &Nodes, parent: NodeId, path: &str, part: &Part) -> Option
     if nodes.find(path).is_some() {
         return Some(Code::SameId);
     }
-    if is_misplaced(nodes.slot(parent), &part.kind) {
+    let scope = nodes.slot(parent);
+    if is_misplaced(scope.stack.is_some(), scope.level, &part.kind) {
         return Some(Code::BadPlace);
     }
     None

@@ -8,7 +8,7 @@ use Rattle.cdk_tree.proofs.nodes.Nodes.find.Goals as goal
 
 pub returns-in-Some-clause-value : goal.returns-in-Some-clause-value
 returns-in-Some-clause-value c =
-    ap Some c.new.ensures ∙ c.in-Some.ensures.index ∙ find-indexed c.args.self.now.paths.entries (placed_nodes c.args.self.now) c.args.path.now c.args.self.now.indexed
+    ap Some c.new.ensures ∙ c.in-Some.ensures ∙ find-indexed c.args.self.now.paths.entries (placed_nodes c.args.self.now) c.args.path.now c.args.self.now.indexed
 
 pub returns-in-Some-clause-within : goal.returns-in-Some-clause-within
 returns-in-Some-clause-within c =
@@ -18,4 +18,4 @@ returns-in-Some-clause-within c =
 
 pub returns-in-None-clause-value : goal.returns-in-None-clause-value
 returns-in-None-clause-value c =
-    c.in-None.ensures.index ∙ find-indexed c.args.self.now.paths.entries (placed_nodes c.args.self.now) c.args.path.now c.args.self.now.indexed
+    c.in-None.ensures ∙ find-indexed c.args.self.now.paths.entries (placed_nodes c.args.self.now) c.args.path.now c.args.self.now.indexed
