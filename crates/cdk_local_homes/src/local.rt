@@ -2,37 +2,21 @@
 ghost use Rattle.std.specs.Prelude.{◌≡◌, ◌<◌, ◌+◌, ◌++◌, ◌∷◌, [], length, List, option_map, IfOk, OnOk};
 ghost use Rattle.cdk_elements.specs.Elements.{logical_of};
 ghost use Rattle.cdk_homes.specs.Kept.{entries_in};
-ghost use Rattle.cdk_language.specs.Construct.{kind_view};
 ghost use Rattle.cdk_local_homes.specs.Local.{attribute_in as spec_attribute_in, AreLocal, HasElementsBelow, PutsOnce, target_of, target_view};
 ghost use Rattle.cdk_stacks.specs.Made.{AreNamesOf};
 ghost use Rattle.cdk_tokens.specs.TableView.{tokens_in};
 ghost use Rattle.cdk_tokens.specs.Token.{Token as TokenView};
 ghost use Rattle.cdk_tokens.specs.Views.{form_view, token_view};
-ghost use Rattle.cdk_tree.specs.PlaceFindings.{is_element as spec_is_element};
 ghost use Rattle.cdk_tree.specs.Placed.{Placed};
 ghost use Rattle.cdk_tree.specs.TreeView.{constructs};
 
 use cdk_base::Text;
 use cdk_homes::{Home, Homes, Target};
-use cdk_language::Kind;
+use cdk_scoping::is_element;
 use cdk_stacks::Names;
 use cdk_tokens::{Form, Table, Token};
 use cdk_tree::{NodeId, Tree};
 use std::alloc::{AllocError, Global};
-
-/// Whether this is what a template holds: a resource, parameter, condition, mapping or output.
-fn is_element(kind: &Kind) -> bool
-    ensures { result ≡ spec_is_element (kind_view kind.now) }
-{
-    match kind {
-        Kind::Resource(_)
-        | Kind::Parameter(_)
-        | Kind::Condition(_)
-        | Kind::Mapping(_)
-        | Kind::Output(_) => true,
-        Kind::App | Kind::Stage | Kind::Stack { .. } | Kind::Group | Kind::Lazy(_) => false,
-    }
-}
 
 // The logical name of a construct, or the empty text where it has none.
 fn logical_name(names: &Names, at: NodeId) -> &str

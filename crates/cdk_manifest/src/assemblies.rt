@@ -3,17 +3,29 @@ ghost use Rattle.std.specs.Prelude.{◌≡◌, ℕ, ◌<◌, ◌≤◌, length, 
 ghost use Rattle.serde_json.specs.View.{members_view, view};
 ghost use Rattle.cdk_tree.specs.TreeView.{constructs};
 ghost use Rattle.cdk_stacks.specs.Made.{AreNamesOf};
-ghost use Rattle.cdk_manifest.specs.Manifest.{artifact_members, manifest_of, stack_metadata, telling_of, with_artifact, with_tree};
+ghost use Rattle.cdk_manifest.specs.Manifest.{artifact_members, is_artifact_of, manifest_of, stack_metadata, telling_of, with_artifact, with_tree};
 
-use crate::kinds::is_artifact;
 use crate::metadata::metadata_of_stacks;
 use crate::named;
 use crate::stack_entries::{artifact_entry, tree_entry};
 use cdk_base::{Map, Value};
-use cdk_stacks::Names;
+use cdk_scoping::{is_stack, is_stage};
+use cdk_stacks::{Names, assembly_of};
 use cdk_tree::{NodeId, Tree};
 use serde_json::{json, put};
 use std::alloc::{AllocError, Global};
+
+/// Whether this is a stack or stage that stands in the assembly of a stage, or of the root.
+fn is_artifact(tree: &Tree, stage: NodeId, at: NodeId) -> bool
+    requires { at < length (constructs tree.now) }
+    ensures { result ≡ is_artifact_of (constructs tree.now) stage at }
+{
+    let kind = &tree.node(at).kind;
+    if !is_stack(kind) && !is_stage(kind) {
+        return false;
+    }
+    assembly_of(tree, at).number() == stage.number()
+}
 
 /// Puts the entry of a stack or stage, where it stands in the assembly.
 fn put_artifact(

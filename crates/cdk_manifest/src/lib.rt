@@ -2,7 +2,6 @@
 #![tactic(auto)]
 
 mod assemblies;
-mod kinds;
 mod laws;
 mod metadata;
 mod named;

@@ -6,10 +6,10 @@ ghost use Rattle.cdk_stacks.specs.Made.{AreNamesOf};
 ghost use Rattle.cdk_manifest.specs.Manifest.{element_metadata, metadata_of, stack_metadata, telling_of, with_element};
 ghost use Rattle.cdk_objects.specs.Maps.{count_of, members_at};
 
-use crate::kinds::is_element;
 use crate::named;
 use cdk_base::Value;
 use cdk_objects::{MapsByConstruct, metadata_key};
+use cdk_scoping::is_element;
 use cdk_stacks::Names;
 use cdk_tree::{NodeId, Tree};
 use serde_json::json;

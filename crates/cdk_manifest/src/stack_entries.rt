@@ -6,9 +6,9 @@ ghost use Rattle.cdk_tree.specs.TreeView.{constructs};
 ghost use Rattle.cdk_stacks.specs.Made.{AreNamesOf};
 ghost use Rattle.cdk_manifest.specs.Manifest.{artifact_entry as spec_artifact_entry, nested_entry as spec_nested_entry, stack_entry as spec_stack_entry, stack_metadata, stack_properties as spec_stack_properties, telling_of, template_file as spec_template_file, tree_entry as spec_tree_entry};
 
-use crate::kinds::is_stack;
 use crate::named;
 use cdk_base::{Map, Text, Value};
+use cdk_scoping::is_stack;
 use cdk_stacks::Names;
 use cdk_tree::{NodeId, Tree};
 use serde_json::json;

@@ -5,9 +5,9 @@ ghost use Rattle.cdk_tree.specs.TreeView.{constructs};
 ghost use Rattle.cdk_stacks.specs.Made.{AreNamesOf};
 ghost use Rattle.cdk_stacks.specs.Names.{is_artifact_id, is_element_misnamed as spec_is_element_misnamed, is_misnamed as spec_is_misnamed, is_some_and, is_stack_misnamed as spec_is_stack_misnamed, is_stage_misnamed as spec_is_stage_misnamed};
 
-use crate::kinds::{is_element, is_stack, is_stage};
 use crate::made::Names;
 use cdk_names::{is_logical, is_stack_name};
+use cdk_scoping::{is_element, is_stack, is_stage};
 use cdk_tree::{NodeId, Tree};
 
 fn has_logical_form(name: Option<&str>) -> bool

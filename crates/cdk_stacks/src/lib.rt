@@ -4,7 +4,6 @@
 mod checking;
 mod forms;
 mod ids;
-mod kinds;
 mod laws;
 mod made;
 mod named;
@@ -17,3 +16,4 @@ pub use laws::{
     stack_names_differ, stacks_have_names,
 };
 pub use made::Names;
+pub use staged::assembly_of;

@@ -7,9 +7,9 @@ ghost use Rattle.cdk_stacks.specs.Made.{names_of as spec_names_of};
 ghost use Rattle.cdk_stacks.specs.Names.{artifact_id as spec_artifact_id, logical_name as spec_logical_name, stack_artifact as spec_stack_artifact, stack_name as spec_stack_name, stage_name as spec_stage_name};
 
 use crate::ids::unique_below;
-use crate::kinds::{is_element, is_stack, is_stage};
 use crate::staged::{stage_artifact, staged_name};
 use cdk_base::Text;
+use cdk_scoping::{is_element, is_stack, is_stage};
 use cdk_tree::{NodeId, Tree};
 use std::alloc::{AllocError, Global};
 

@@ -15,10 +15,10 @@ ghost use Rattle.cdk_synthesis.specs.Assembly.{AllUtf8, file_of as spec_file_of,
 ghost use Rattle.cdk_synthesis.specs.Files.{AreTemplates, FilesAnswer, IsTemplateFile, PutsRest, PutsTemplate};
 ghost use Rattle.cdk_synthesis.specs.Values.{CanBeMade};
 
-use crate::stacks::is_stack;
 use crate::values::values_of;
 use cdk_base::{List, Text, Value, pretty_bytes};
 use cdk_manifest::{manifest, template_name, tree_file};
+use cdk_scoping::is_stack;
 use cdk_template::{Sources, template};
 use cdk_tree::{NodeId, PassError};
 use std::alloc::{AllocError, Global};

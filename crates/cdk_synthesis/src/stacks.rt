@@ -1,18 +1,10 @@
 // The stacks of a tree.
 ghost use Rattle.std.specs.Prelude.{◌≡◌};
-ghost use Rattle.cdk_language.specs.Construct.{kind_view};
-ghost use Rattle.cdk_tree.specs.Placed.{is_stack as spec_is_stack};
 ghost use Rattle.cdk_tree.specs.TreeView.{constructs};
 ghost use Rattle.cdk_synthesis.specs.Stacks.{first_stack as spec_first_stack};
 
-use cdk_language::Kind;
+use cdk_scoping::is_stack;
 use cdk_tree::{NodeId, Tree};
-
-pub(crate) fn is_stack(kind: &Kind) -> bool
-    ensures { result ≡ spec_is_stack (kind_view kind.now) }
-{
-    matches!(kind, Kind::Stack { .. })
-}
 
 /// The first stack in walk order; the root where there is none.
 pub(crate) fn first_stack(tree: &Tree) -> NodeId

@@ -1,6 +1,5 @@
 // How much the template of each stack holds.
 ghost use Rattle.std.specs.Prelude.{◌≡◌, ◌&&◌, ◌<◌, length};
-ghost use Rattle.cdk_language.specs.Construct.{kind_view};
 ghost use Rattle.cdk_tree.specs.Placed.{construct_at, is_stack as spec_is_stack};
 ghost use Rattle.cdk_tree.specs.TreeView.{constructs, FindsFirst};
 ghost use Rattle.cdk_template.specs.Counts.{count_findings, is_too_large as spec_is_too_large};
@@ -9,7 +8,7 @@ ghost use Rattle.cdk_elements.specs.Kinds.{is_in as spec_is_in};
 
 use crate::room::Room;
 use cdk_base::Code;
-use cdk_language::Kind;
+use cdk_scoping::is_stack;
 use cdk_tree::{Found, NodeId, Tree};
 
 /// Whether a construct stands in the stack.
@@ -47,12 +46,6 @@ fn is_too_large(tree: &Tree, stack: NodeId) -> bool
         }
     }
     false
-}
-
-fn is_stack(kind: &Kind) -> bool
-    ensures { result ≡ spec_is_stack (kind_view kind.now) }
-{
-    matches!(kind, Kind::Stack { .. })
 }
 
 fn is_wrong(tree: &Tree, at: NodeId) -> bool
