@@ -13,9 +13,8 @@ ghost use Rattle.cdk_constructs.specs.Views.{map_view};
 
 use cdk_base::{List, Map, Text, Value};
 use cdk_expressions::{fields_of, read_condition, read_expression};
-use cdk_heads::optional_text;
 use cdk_language::{Cond, Expr, Kind, KindName, Output, Parameter, ParameterForm, Resource};
-use cdk_members::{ReadError, kind_named, member, policies_of, text_at};
+use cdk_members::{ReadError, kind_named, member, optional_text, policies_of, text_at};
 use cdk_substitution::Copies;
 use std::alloc::Global;
 

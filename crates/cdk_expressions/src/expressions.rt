@@ -1,19 +1,18 @@
 // The expression that a JSON value is: one function for each form.
-ghost use Rattle.std.specs.Prelude.{◌≡◌, ◌<◌, option_map, option_and_then};
-ghost use Rattle.std.specs.Option.{IfSome};
+ghost use Rattle.std.specs.Prelude.{◌≡◌, option_map, option_and_then};
 ghost use Rattle.serde_json.specs.Find.{as_integer, as_str};
-ghost use Rattle.serde_json.specs.declared.value.Value.{size-Value};
 ghost use Rattle.serde_json.specs.View.{view as json_view, number_view, items_view, members_view};
 ghost use Rattle.cdk_language.specs.Application.{expression_of as expression_in, expressions_of as expressions_in, fields_of as fields_in, form_of as form_in, get_att_of as get_att_in, context_of as context_in_json, join_of as join_in, select_of as select_in, split_of as split_in, choice_of as choice_in, find_in_map_of as find_in_map_in, concat_of as concat_in, substituted_of as substituted_in, ref_of as reference_in, sub_of};
 ghost use Rattle.cdk_language.specs.Expression.{whole, lazy, import_value, no_fields, view, field_view, expressions_view, fields_view};
 ghost use Rattle.cdk_members.specs.Gives.{Gives};
-ghost use Rattle.cdk_expressions.specs.Arguments.{lone_text as spec_lone_text, text_then, index_then, text_then_two, text_then_expression, text_then_two_expressions};
+ghost use Rattle.cdk_expressions.specs.Arguments.{text_then_expression, text_then_two_expressions};
 ghost use Rattle.cdk_expressions.specs.Forms.{form_with as spec_form_with};
 
 use cdk_base::{List, Map, Text, Value};
 use cdk_language::{Expr, Field};
 use cdk_members::{
-    FormName, ReadError, form_named, has_form_key, one_of, only_member, three_of, two_of,
+    FormName, ReadError, form_named, has_form_key, index_and_value, lone_text, only_member,
+    text_and_two_values, text_and_value,
 };
 use cdk_substitution::{Copies, reference_of, substituted};
 use serde_json::Number;
@@ -177,40 +176,6 @@ fn lazy_of(alloc: Global, value: &Value) -> Result<Expr, ReadError>
     }
 }
 
-/// The text and the value of an array of these two.
-fn text_and_value(value: &Value) -> Option<(&str, &Value)>
-    ensures parts { option_map (λ p. (p.0.now, json_view p.1.now)) result ≡ text_then (json_view value.now) }
-    ensures smaller { IfSome result (λ p. size-Value p.1.now < size-Value value.now) }
-{
-    let Value::Array(items) = value else {
-        return None;
-    };
-    let Some((text, value)) = two_of(items) else {
-        return None;
-    };
-    let Some(text) = text.as_str() else {
-        return None;
-    };
-    Some((text, value))
-}
-
-/// The text and the two values of an array of these three.
-fn text_and_two_values(value: &Value) -> Option<(&str, &Value, &Value)>
-    ensures parts { option_map (λ p. (p.0.now, (json_view p.1.now, json_view p.2.now))) result ≡ text_then_two (json_view value.now) }
-    ensures smaller { IfSome result (λ p. (size-Value p.1.now < size-Value value.now) × (size-Value p.2.now < size-Value value.now)) }
-{
-    let Value::Array(items) = value else {
-        return None;
-    };
-    let Some((text, first, second)) = three_of(items) else {
-        return None;
-    };
-    let Some(text) = text.as_str() else {
-        return None;
-    };
-    Some((text, first, second))
-}
-
 fn get_att_of(alloc: Global, value: &Value) -> Result<Expr, ReadError>
     ensures { Gives view result (get_att_in (json_view value.now)) }
 {
@@ -223,19 +188,6 @@ fn get_att_of(alloc: Global, value: &Value) -> Result<Expr, ReadError>
     let target = Text::new(alloc, target)?;
     let attribute = Text::new(alloc, attribute)?;
     Ok(Expr::GetAtt(target, attribute))
-}
-
-/// The text of an array that holds nothing else.
-fn lone_text(value: &Value) -> Option<&str>
-    ensures { option_map (λ s. s.now) result ≡ spec_lone_text (json_view value.now) }
-{
-    let Value::Array(items) = value else {
-        return None;
-    };
-    match one_of(items) {
-        Some(key) => key.as_str(),
-        None => None,
-    }
 }
 
 fn context_of(alloc: Global, value: &Value) -> Result<Expr, ReadError>
@@ -293,23 +245,6 @@ fn join_of(alloc: Global, copies: &mut Copies, value: &Value) -> Result<Expr, Re
 {
     let (delimiter, list) = text_and_expression(alloc, copies, value)?;
     Ok(Expr::Join(delimiter, list))
-}
-
-/// The index and the value of an array of these two.
-fn index_and_value(value: &Value) -> Option<(u64, &Value)>
-    ensures parts { option_map (λ p. (p.0, json_view p.1.now)) result ≡ index_then (json_view value.now) }
-    ensures smaller { IfSome result (λ p. size-Value p.1.now < size-Value value.now) }
-{
-    let Value::Array(items) = value else {
-        return None;
-    };
-    let Some((index, value)) = two_of(items) else {
-        return None;
-    };
-    let Some(index) = index.as_u64() else {
-        return None;
-    };
-    Some((index, value))
 }
 
 #[cycle(read)]

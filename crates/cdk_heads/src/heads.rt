@@ -10,7 +10,7 @@ ghost use Rattle.cdk_heads.specs.Views.{head_view, entries_view, as_they_are};
 
 use cdk_base::{List, Map, Text, Value};
 use cdk_language::Entry;
-use cdk_members::{ReadError, member, priority_of, text_at};
+use cdk_members::{ReadError, logical_id_of, member, priority_of, text_at};
 use std::alloc::{AllocError, Global};
 
 /// The parts of a construct beside its kind and its children.
@@ -21,16 +21,6 @@ pub struct Head {
     pub aspects: List<Entry>,
     pub depends: List<Text>,
     pub logical: Option<Text>,
-}
-
-/// The text at the key, where there is one.
-pub fn optional_text(alloc: Global, members: &Map, key: &str) -> Result<Option<Text>, AllocError>
-    ensures { IfOk result (λ text. text ≡ text_in key.now (members_view members.now.entries)) }
-{
-    match text_at(members, key) {
-        Some(text) => Ok(Some(Text::new(alloc, text)?)),
-        None => Ok(None),
-    }
 }
 
 /// The construct's own context values; none where none are given.
@@ -126,7 +116,7 @@ pub fn head_of(alloc: Global, members: &Map, id: &str) -> Result<Head, ReadError
     ensures { Gives head_view result (head_in_members (members_view members.now.entries) id.now) }
 {
     let id = Text::new(alloc, id)?;
-    let logical = optional_text(alloc, members, "logicalId")?;
+    let logical = logical_id_of(alloc, members)?;
     let depends = depends_of(alloc, member(members, "dependsOn"))?;
     let aspects = aspects_of(alloc, member(members, "aspects"))?;
     let context = context_of(alloc, members)?;

@@ -3,4 +3,4 @@
 
 mod heads;
 
-pub use heads::{Head, head_of, optional_text};
+pub use heads::{Head, head_of};

@@ -1,12 +1,13 @@
 // Looking at the members of an object.
-ghost use Rattle.std.specs.Prelude.{◌≡◌, ◌≢◌, [], ◌∷◌, length, option_map, MatchOption};
+ghost use Rattle.std.specs.Prelude.{◌≡◌, ◌≢◌, [], ◌∷◌, length, codes, option_map, IfOk, MatchOption};
 ghost use Rattle.serde_json.specs.Find.{get_member};
 ghost use Rattle.serde_json.specs.View.{view, members_view};
 ghost use Rattle.cdk_base.specs.Json.{is_form_key as spec_is_form_key};
 ghost use Rattle.cdk_language.specs.Application.{text_at as spec_text_at, has_form_key as spec_has_form_key};
 ghost use Rattle.cdk_language.specs.Schema.{lacks as spec_lacks};
 
-use cdk_base::{Map, Value};
+use cdk_base::{Map, Text, Value};
+use std::alloc::{AllocError, Global};
 
 /// The member of the key.
 pub fn member<'a>(members: &'a Map, key: &str) -> Option<&'a Value>
@@ -45,6 +46,24 @@ pub fn text_at<'a>(members: &'a Map, key: &str) -> Option<&'a str>
         Some(value) => value.as_str(),
         None => None,
     }
+}
+
+/// The text at the key, where there is one, for its own. The error is want of memory.
+pub fn optional_text(alloc: Global, members: &Map, key: &str) -> Result<Option<Text>, AllocError>
+    ensures { IfOk result (λ text. text ≡ spec_text_at key.now (members_view members.now.entries)) }
+{
+    match text_at(members, key) {
+        Some(text) => Ok(Some(Text::new(alloc, text)?)),
+        None => Ok(None),
+    }
+}
+
+/// The logical name that a construct asks for: the text at `logicalId` (AWS CDK's `overrideLogicalId`). The error is
+/// want of memory.
+pub fn logical_id_of(alloc: Global, members: &Map) -> Result<Option<Text>, AllocError>
+    ensures { IfOk result (λ text. text ≡ spec_text_at (codes "logicalId") (members_view members.now.entries)) }
+{
+    optional_text(alloc, members, "logicalId")
 }
 
 /// Whether only a form may have the key: it is `Ref`, or begins with `Fn::` or `CDK::`.
