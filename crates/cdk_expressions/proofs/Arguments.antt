@@ -1,9 +1,7 @@
 -- The forms by what stands in their arrays.
-use Rattle.std.proofs.Common.{◌≡◌, ◌≢◌, ℕ, List, [], ◌∷◌, length, Option, Some, None, Box, Global, rules, option_map, option_and_then, Result, Err, refl, ap, sym, subst, ◌∙◌}
+use Rattle.std.proofs.Common.{◌≡◌, ℕ, List, Option, Some, None, Box, Global, rules, option_map, option_and_then, Result, Err, refl, ap, sym, subst, ◌∙◌}
 use Rattle.serde_json.specs.Data.{Data, null, boolean, number, string, array, object, Items, no_items, item, Members}
 use Rattle.serde_json.specs.Find.{as_str, as_number, as_u64, as_object}
-use Rattle.serde_json.specs.View.{items_view}
-use Rattle.serde_json.specs.declared.value.Value.{Value}
 use Rattle.cdk_language.specs.Application.{expression_of, fields_of, context_of, join_of, select_of, split_of, choice_of, find_in_map_of, substituted_of, sub_of}
 use Rattle.cdk_language.specs.Expression as expression
 use Rattle.cdk_language.specs.Expression.{Expression, view}
@@ -11,7 +9,7 @@ use Rattle.cdk_language.specs.declared.expression.Expr.{Expr, Join, Select, Spli
 use Rattle.cdk_members.specs.Gives.{Gives}
 use Rattle.cdk_members.specs.declared.error.ReadError.{ReadError}
 use Rattle.cdk_members.specs.declared.error.ReadError.TheVariants as errors
-use Rattle.cdk_members.specs.Arrays.{lone_text, text_then, index_then, text_then_two}
+use Rattle.cdk_members.specs.Arrays.{lone_text, text_then, index_then}
 use Rattle.cdk_expressions.specs.Arguments.{both, text_then_expression, text_then_two_expressions}
 
 -- ---- what follows from a first item that may be missing

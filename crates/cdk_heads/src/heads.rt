@@ -1,8 +1,8 @@
 // What every construct has beside its kind and its children.
 ghost use Rattle.std.specs.Prelude.{◌≡◌, IfOk, option_and_then};
-ghost use Rattle.serde_json.specs.Find.{as_object, get_member};
+ghost use Rattle.serde_json.specs.Find.{as_object};
 ghost use Rattle.serde_json.specs.View.{view as json_view, items_view, members_view};
-ghost use Rattle.cdk_language.specs.Application.{text_at as text_in, texts_of as texts_in, entry_in as entry_in_members, entries_of as entries_in, if_given, context_in as context_in_members, head_in as head_in_members};
+ghost use Rattle.cdk_language.specs.Application.{texts_of as texts_in, entry_in as entry_in_members, entries_of as entries_in, if_given, context_in as context_in_members, head_in as head_in_members};
 ghost use Rattle.cdk_language.specs.Construct.{entry_view};
 ghost use Rattle.cdk_members.specs.Gives.{Gives};
 ghost use Rattle.cdk_members.specs.Views.{data_view};

@@ -1,11 +1,10 @@
 -- What is wrong with the ids and places of constructs (own rules over AWS CDK's ids).
-use Rattle.std.specs.Prelude.{ℕ, ◌&&◌, ◌||◌, ◌==◌, List, [], ◌∷◌, ◌++◌, map, length, nat_eq, nat_le, not, Bool, true, false, if◌then◌else◌, Option, Some, None, is_some, is_none}
-use Rattle.std.specs.List.{list_all, list_any}
+use Rattle.std.specs.Prelude.{ℕ, ◌&&◌, List, [], ◌∷◌, ◌++◌, map, nat_eq, not, Bool, if◌then◌else◌, Option, Some, None, is_some}
+use Rattle.std.specs.List.{list_any}
 use Rattle.std.specs.Option.{option_eq}
 use Rattle.std.specs.Str.{bytes_eq}
 use Rattle.cdk_base.specs.declared.code.Code.{Code}
 use Rattle.cdk_base.specs.declared.code.Code.TheVariants.{BadId, SameId, BadPlace}
-use Rattle.cdk_language.specs.Construct as language
 use Rattle.cdk_language.specs.Construct.{Body}
 use Rattle.cdk_language.specs.declared.finding.Finding.{Finding}
 pub use Rattle.cdk_scoping.specs.Ids.{is_id, is_id_byte}

@@ -1,5 +1,5 @@
 // The constructs of an application, placed one by one.
-ghost use Rattle.std.specs.Prelude.{◌≡◌, ◌<◌, ◌+◌, [], ◌∷◌, ◌++◌, length, IfOk, OnOk, None, string_bytes, true};
+ghost use Rattle.std.specs.Prelude.{◌≡◌, ◌<◌, ◌+◌, [], ◌∷◌, ◌++◌, length, OnOk, None, string_bytes, true};
 ghost use Rattle.cdk_language.specs.Construct.{construct, kind_view, node_view, nodes_view};
 ghost use Rattle.cdk_tree.specs.NodesView.{placed_nodes};
 ghost use Rattle.cdk_scoping.specs.Ids.{path_in as spec_path_in};
